@@ -1,0 +1,10 @@
+pub mod Described
+pub mod Encoded
+pub mod Finds
+pub mod Fitted
+pub mod Flags
+pub mod Laying
+pub mod Listings
+pub mod Puts
+pub mod ReadBack
+pub mod Rebuilt

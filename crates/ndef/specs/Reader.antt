@@ -1,0 +1,49 @@
+-- What each call of the reader hands out. The reader of a message m stands at a place p.
+use mathlib.Core.Path.{_≡_}
+use mathlib.Core.Bool.{Bool, true, false}
+use mathlib.Core.List.{List}
+use Prim.Native.Nat.{ℕ, _+_}
+use lib.ListN.{length, drop}
+use Rattle.std.specs.declared.option.Option.{Option}
+use Rattle.std.specs.declared.option.Option.the-variants.{Some, None}
+use Rattle.std.specs.declared.result.Result.{Result}
+use Rattle.std.specs.declared.result.Result.the-variants.{Ok, Err}
+use Rattle.ndef.specs.declared.layout.Layout.{Layout}
+use Rattle.ndef.specs.declared.record.Part.{Part}
+use Rattle.ndef.specs.declared.record.Record.{Record}
+use Rattle.ndef.specs.declared.refusal.RecordRefusal.{RecordRefusal}
+use Rattle.ndef.specs.declared.refusal.RecordRefusal.the-variants.{BadHeader}
+use Rattle.ndef.specs.Format.{formatOf}
+use Rattle.ndef.specs.Header.{fixed}
+use Rattle.ndef.specs.Reading.{Bytes, flagsOf, kindLength, idLength, payloadLength, good, goodAt, Stretch, Entry, entryAt, ended, bad, one, left}
+
+-- a record of the code, as an entry of the listing
+abbrev pub stretchOf : Part → Stretch
+stretchOf p = record { place = p .place; bytes = p .bytes .now }
+
+abbrev pub entryOf : Record → Entry
+entryOf r = record { place = r .place; format = r .format; kind = stretchOf (r .kind); id = stretchOf (r .id); payload = stretchOf (r .payload) }
+
+-- the lengths of the record at the front of bs
+pub record Lays (first : Bool) (bs : List ℕ) (l : Layout) : Type 0 where
+  pub good : good first bs ≡ true
+  pub format : l .format ≡ formatOf (flagsOf bs)
+  pub fixed : l .fixed ≡ fixed (flagsOf bs)
+  pub kind : l .kind ≡ kindLength bs
+  pub id : l .id ≡ idLength bs
+  pub payload : l .payload ≡ payloadLength bs
+  pub bytes : Bytes bs
+
+-- the record of the code is the good one at p
+pub record Found (m : List ℕ) (p : ℕ) (r : Record) : Type 0 where
+  pub good : goodAt m p ≡ true
+  pub entry : entryOf r ≡ entryAt m p
+  pub bytes : Bytes (drop p m)
+
+-- At a record: that record, and the reader stands behind its payload. At the end: none. At a bad header: the refusal with
+-- its place. In the last two cases the reader stays, so the next call answers the same.
+abbrev pub Hands : List ℕ → ℕ → ℕ → Result (Option Record) RecordRefusal → Type 0
+Hands m p q (Ok (Some r)) =
+    (left m p ≡ one (entryOf r) (left m q)) × (q ≡ r .payload .place + length (r .payload .bytes .now)) × Bytes (drop p m)
+Hands m p q (Ok None) = (left m p ≡ ended) × (q ≡ p)
+Hands m p q (Err e) = (left m p ≡ bad p) × (e ≡ BadHeader p) × (q ≡ p)
