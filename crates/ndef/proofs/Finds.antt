@@ -47,7 +47,6 @@ module _ (m : List ℕ) (p : ℕ) (l : Layout) (lays : Lays (eqb p 0) (drop p m)
       record {
         good = lays .good;
         entry = λ i. record { place = p; format = format-is i; kind = k i; id = d i; payload = y i };
-        bytes = lays .bytes;
       }
 
 -- the reader that found a record, and stands behind its payload then
@@ -68,4 +67,4 @@ module _ (m : List ℕ) (p : ℕ) (r : Record) (h : p ≤ length m) (f : Found m
   hands o q e =
       let e′ = e ∙ behind in
       let same = f .entry in
-      (left-good m p h o (f .good) ∙ (λ i. one (sym same i) (left m (sym e′ i))), e, f .bytes)
+      (left-good m p h o (f .good) ∙ (λ i. one (sym same i) (left m (sym e′ i))), e)

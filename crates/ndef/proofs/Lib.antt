@@ -1,3 +1,6 @@
+pub mod Amounts
+pub mod Composes
+pub mod Counted
 pub mod Described
 pub mod Encoded
 pub mod Finds
@@ -7,4 +10,5 @@ pub mod Laying
 pub mod Listings
 pub mod Puts
 pub mod ReadBack
+pub mod Recomposes
 pub mod Rebuilt

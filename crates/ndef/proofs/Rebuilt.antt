@@ -65,10 +65,10 @@ fixed-part false false bs byte es en h =
 -- ---- one record
 
 module _ (bs : List ℕ) (within : size bs ≤ length bs) where
-  kind-long : length (contentAt bs .kind) ≡ kindLength bs
+  pub kind-long : length (contentAt bs .kind) ≡ kindLength bs
   kind-long = length-take-le _ _ (let l = length-drop (fixed (flagsOf bs)) bs in omega arith)
 
-  id-long : length (contentAt bs .id) ≡ idLength bs
+  pub id-long : length (contentAt bs .id) ≡ idLength bs
   id-long = length-take-le _ _ (let l = length-drop (fixed (flagsOf bs) + kindLength bs) bs in omega arith)
 
   pub payload-long : length (contentAt bs .payload) ≡ payloadLength bs
@@ -97,7 +97,7 @@ record-rebuilt first bs byte g tight-s tight-n =
 
 -- ---- the whole message
 
-some-none : {p : ℕ} → _≡_ {A = Option ℕ} (Some p) None → ⊥
+pub some-none : {p : ℕ} → _≡_ {A = Option ℕ} (Some p) None → ⊥
 some-none {p} e = let z : _≡_ {A = ℕ} 0 1 = cc in omega arith
 
 -- behind a record, nothing more comes just where the message ends
@@ -116,7 +116,7 @@ ends-alike : (p s l n : ℕ) → p ≤ n → l ≡ n - p → eqb (p + s) n ≡ e
 ends-alike p s l n h e =
     ⊎-elim (λ y. eq-eqb (p + s) n (omega arith) ∙ sym (eq-eqb s l y)) (λ y. ne-eqb (p + s) n (λ z. y (omega arith)) ∙ sym (ne-eqb s l y)) (cases-eq s l)
 
-bytes-drop : (p : ℕ) (m : List ℕ) → Bytes m → Bytes (drop p m)
+pub bytes-drop : (p : ℕ) (m : List ℕ) → Bytes m → Bytes (drop p m)
 bytes-drop p m byte k = subst (λ n. n < 256) (sym (getD-drop p m k 0)) (byte (p + k))
 
 rebuild-rest : (n : ℕ) (m : List ℕ) (p : ℕ) → length m - p < n → p ≤ length m → Bytes m → fault (left m p) ≡ None → Every (Tight m) (entries (left m p)) → messageFrom (eqb p 0) (contents (left m p)) ≡ drop p m

@@ -15,7 +15,7 @@ use Rattle.ndef.specs.declared.refusal.RecordRefusal.{RecordRefusal}
 use Rattle.ndef.specs.declared.refusal.RecordRefusal.the-variants.{BadHeader}
 use Rattle.ndef.specs.Format.{formatOf}
 use Rattle.ndef.specs.Header.{fixed}
-use Rattle.ndef.specs.Reading.{Bytes, flagsOf, kindLength, idLength, payloadLength, good, goodAt, Stretch, Entry, entryAt, ended, bad, one, left}
+use Rattle.ndef.specs.Reading.{flagsOf, kindLength, idLength, payloadLength, good, goodAt, Stretch, Entry, entryAt, ended, bad, one, left}
 
 -- a record of the code, as an entry of the listing
 abbrev pub stretchOf : Part → Stretch
@@ -32,18 +32,16 @@ pub record Lays (first : Bool) (bs : List ℕ) (l : Layout) : Type 0 where
   pub kind : l .kind ≡ kindLength bs
   pub id : l .id ≡ idLength bs
   pub payload : l .payload ≡ payloadLength bs
-  pub bytes : Bytes bs
 
 -- the record of the code is the good one at p
 pub record Found (m : List ℕ) (p : ℕ) (r : Record) : Type 0 where
   pub good : goodAt m p ≡ true
   pub entry : entryOf r ≡ entryAt m p
-  pub bytes : Bytes (drop p m)
 
 -- At a record: that record, and the reader stands behind its payload. At the end: none. At a bad header: the refusal with
 -- its place. In the last two cases the reader stays, so the next call answers the same.
 abbrev pub Hands : List ℕ → ℕ → ℕ → Result (Option Record) RecordRefusal → Type 0
 Hands m p q (Ok (Some r)) =
-    (left m p ≡ one (entryOf r) (left m q)) × (q ≡ r .payload .place + length (r .payload .bytes .now)) × Bytes (drop p m)
+    (left m p ≡ one (entryOf r) (left m q)) × (q ≡ r .payload .place + length (r .payload .bytes .now))
 Hands m p q (Ok None) = (left m p ≡ ended) × (q ≡ p)
 Hands m p q (Err e) = (left m p ≡ bad p) × (e ≡ BadHeader p) × (q ≡ p)

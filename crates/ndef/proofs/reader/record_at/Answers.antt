@@ -1,5 +1,6 @@
 use mathlib.Core.Path.{_≡_, refl, sym, ap, subst, _∙_}
 use mathlib.Core.Bool.{false}
+use borrow.Author.Needs.{needs}
 use native.Mathlib.Omega.{arith}
 use Prim.Native.Nat.{_≤_, _+_}
 use lib.Dec.{eqb}
@@ -18,6 +19,12 @@ returns-in-Break-layout c =
 lays : (c : In-Continue-layout) → Lays (eqb (c .args .place) 0) (drop (c .args .place) (c .args .message .now)) (c .in-Continue-layout .layout)
 lays c =
     subst (λ bs. Lays (eqb (c .args .place) 0) bs (c .in-Continue-layout .layout)) (take-rest (c .args .message .now) (c .args .place)) (c .in-Continue-layout .ensures tt)
+
+pub add-kind : need.add-kind
+add-kind c = let w = ends-within _ _ _ (lays (need.at·add-kind c .In-Continue-layout)) (c .pre) in search needs
+
+pub add-id : need.add-id
+add-id c = let w = ends-within _ _ _ (lays (need.at·add-id c .In-Continue-layout)) (c .pre) in search needs
 
 pub part-kind-requires : need.part-kind-requires
 part-kind-requires c κs =

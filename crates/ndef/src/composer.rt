@@ -1,0 +1,45 @@
+// The composer: descriptions into a message.
+ghost use mathlib.Core.Path.{_≡_};
+ghost use mathlib.Core.List.{map};
+ghost use lib.ListN.{length};
+ghost use Rattle.ndef.specs.Composing.{Composes, composed, described};
+ghost use Rattle.ndef.specs.Message.{message};
+use crate::description::Description;
+use crate::refusal::RecordRefusal;
+
+// The longest message.
+pub const LONGEST: usize = 65_534;
+
+// The length of the message that the descriptions make, whatever the space.
+fn composed_length(descriptions: &[Description], store: &[u8]) -> Result<usize, RecordRefusal>
+    ensures { λ r. ⌜ r ≡ composed (now (store .entry)) (now (descriptions .entry)) (length (message (map (described (now (store .entry))) (now (descriptions .entry))))) ⌝ }
+{
+    let mut total: usize = 0;
+    for (index, description) in descriptions.iter().enumerate() {
+        let Some(fields) = description.fields(store) else {
+            return Err(RecordRefusal::BadDescription { index });
+        };
+        total = total.saturating_add(fields.encoded_length());
+    }
+    if total == 0 || total > LONGEST {
+        return Err(RecordRefusal::BadDescription { index: 0 });
+    }
+    Ok(total)
+}
+
+// Composes the message of the described records into the front of the space, and answers its length.
+pub fn compose(descriptions: &[Description], store: &[u8], space: &mut [u8]) -> Result<usize, RecordRefusal>
+    ensures { λ r. ⌜ Composes (now (descriptions .entry)) (now (store .entry)) (now (space .entry)) (now (space .exit)) r ⌝ }
+{
+    let total = composed_length(descriptions, store)?;
+    if space.len() < total {
+        return Err(RecordRefusal::SpaceShort);
+    }
+    let mut at = 0;
+    for (index, description) in descriptions.iter().enumerate() {
+        if let Some(fields) = description.fields(store) {
+            at = fields.lay(space, at, index == 0, index + 1 == descriptions.len());
+        }
+    }
+    Ok(total)
+}
