@@ -157,7 +157,7 @@ module _ (first last : Bool) (c : Content) (tail : List ℕ) (t : length (c .pay
       let within : size bytes ≤ length bytes = omega arith in
       and-from _ _
       (and-from _ _
-        (and-from _ _ (and-from _ _ (le-leb _ _ within) (alike _ _ (tells .says-mb)))
-          (alike _ _ (tells .says-me ∙ ends ∙ ap (λ n. eqb n (length bytes)) (sym sized))))
-        (ap not (tells .says-cf)))
+      (and-from _ _ (and-from _ _ (le-leb _ _ within) (alike _ _ (tells .says-mb)))
+      (alike _ _ (tells .says-me ∙ ends ∙ ap (λ n. eqb n (length bytes)) (sym sized))))
+      (ap not (tells .says-cf)))
       ((λ i. allows (tells .says-format i) (length (c .kind)) (found .id-is i) (found .payload-is i)) ∙ allowed)

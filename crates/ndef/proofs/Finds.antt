@@ -1,18 +1,16 @@
 -- From the lengths of a record to the record, and from the record to what the reader hands out. Assumes nothing.
 use mathlib.Core.Path.{_≡_, refl, sym, ap, subst, _∙_}
 use mathlib.Core.Bool.{Bool, true, false}
-use mathlib.Core.List.{List}
-use Prim.Native.Nat.{ℕ, _+_, _-_, _≤_, _<_}
+use mathlib.Core.List.{List, [], _∷_}
+use Prim.Native.Nat.{ℕ, zero, suc, _+_, _-_, _≤_, _<_}
 use native.Mathlib.Nat.{add-assoc}
 use native.Mathlib.Omega.{arith}
 use lib.Dec.{eqb}
 use lib.ListN.{length, take, drop, length-drop}
-use Rattle.std.specs.declared.option.Option.the-variants.{Some}
-use Rattle.std.specs.declared.result.Result.the-variants.{Ok}
 use Rattle.ndef.specs.declared.layout.Layout.{Layout}
 use Rattle.ndef.specs.declared.record.Part.{Part}
 use Rattle.ndef.specs.declared.record.Record.{Record}
-use Rattle.ndef.specs.Reader.{stretchOf, entryOf, Lays, Found, Hands}
+use Rattle.ndef.specs.Reader.{stretchOf, entryOf, Lays, Found, Lies, Handed}
 use Rattle.ndef.specs.Reading.{flagsOf, kindLength, idLength, payloadLength, payloadPlace, size, goodAt, Stretch, stretch, entryAt, over, left, one}
 use Rattle.ndef.proofs.Encoded.{contentAt, content-at}
 use Rattle.ndef.proofs.Listings.{good-facts, steps, left-good}
@@ -49,6 +47,18 @@ module _ (m : List ℕ) (p : ℕ) (l : Layout) (lays : Lays (eqb p 0) (drop p m)
         entry = λ i. record { place = p; format = format-is i; kind = k i; id = d i; payload = y i };
       }
 
+-- what a front of a list has is that many of the list's
+own-length : (n : ℕ) (xs : List ℕ) → take n xs ≡ take (length (take n xs)) xs
+own-length zero xs = refl
+own-length (suc n) [] = refl
+own-length (suc n) (x ∷ xs) = ap (λ l. x ∷ l) (own-length n xs)
+
+lies : (m : List ℕ) (part : Part) (n : ℕ) {place : ℕ} → stretchOf part ≡ stretch m place n → Lies m part
+lies m part n {place} e =
+    let is : part .bytes .now ≡ take n (drop place m) = ap (λ (s : Stretch). s .bytes) e in
+    let at : place ≡ part .place = sym (ap (λ (s : Stretch). s .place) e) in
+    is ∙ own-length n (drop place m) ∙ ap (λ l. take (length l) (drop place m)) (sym is) ∙ ap (λ q. take (length (part .bytes .now)) (drop q m)) at
+
 -- the reader that found a record, and stands behind its payload then
 module _ (m : List ℕ) (p : ℕ) (r : Record) (h : p ≤ length m) (f : Found m p r) where
   pub behind : r .payload .place + length (r .payload .bytes .now) ≡ p + size (drop p m)
@@ -63,8 +73,15 @@ module _ (m : List ℕ) (p : ℕ) (r : Record) (h : p ≤ length m) (f : Found m
   pub behind-within : r .payload .place + length (r .payload .bytes .now) ≤ length m
   behind-within = let e = behind in omega (arith, steps m p h (f .good) .within)
 
-  pub hands : over m p ≡ false → (q : ℕ) → q ≡ r .payload .place + length (r .payload .bytes .now) → Hands m p q (Ok (Some r))
+  pub hands : over m p ≡ false → (q : ℕ) → q ≡ r .payload .place + length (r .payload .bytes .now) → Handed m p q r
   hands o q e =
-      let e′ = e ∙ behind in
-      let same = f .entry in
-      (left-good m p h o (f .good) ∙ (λ i. one (sym same i) (left m (sym e′ i))), e)
+      let e′ = sym (e ∙ behind) in
+      let same = sym (f .entry) in
+      record {
+        next = left-good m p h o (f .good) ∙ (λ i. one (same i) (left m (e′ i)));
+        header = ap (λ x. x .place) (f .entry);
+        kind = lies m (r .kind) _ (ap (λ x. x .kind) (f .entry));
+        id = lies m (r .id) _ (ap (λ x. x .id) (f .entry));
+        payload = lies m (r .payload) _ (ap (λ x. x .payload) (f .entry));
+        stands = e;
+      }

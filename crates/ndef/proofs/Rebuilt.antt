@@ -106,10 +106,10 @@ none-at-end m p some h whole =
     ⊎-elim
     (λ e. ap (λ l. none (contents l)) (left-over m p (and-from _ _ (lt-ltb 0 p some) (eq-eqb p (length m) e))) ∙ sym (eq-eqb p (length m) e))
     (λ ne.
-        let o : over m p ≡ false = and-right (ltb 0 p) _ (ne-eqb p (length m) ne) in
-        ⊎-elim (λ g. ap (λ l. none (contents l)) (left-good m p h o g) ∙ sym (ne-eqb p (length m) ne))
-        (λ g. absurd (some-none (sym (ap fault (left-bad m p o g)) ∙ whole)))
-        (cases-bool (goodAt m p)))
+    let o : over m p ≡ false = and-right (ltb 0 p) _ (ne-eqb p (length m) ne) in
+    ⊎-elim (λ g. ap (λ l. none (contents l)) (left-good m p h o g) ∙ sym (ne-eqb p (length m) ne))
+    (λ g. absurd (some-none (sym (ap fault (left-bad m p o g)) ∙ whole)))
+    (cases-bool (goodAt m p)))
     (cases-eq p (length m))
 
 ends-alike : (p s l n : ℕ) → p ≤ n → l ≡ n - p → eqb (p + s) n ≡ eqb s l
@@ -125,26 +125,26 @@ rebuild-rest (suc n) m p few h byte whole tight =
     ⊎-elim
     (λ o. ap (λ l. messageFrom (eqb p 0) (contents l)) (left-over m p o) ∙ sym (drop-all p m (let e = eqb-true p (length m) (and-parts (ltb 0 p) (eqb p (length m)) o .1) in omega arith)))
     (λ o.
-        ⊎-elim
-        (λ g.
-            let bs = drop p m in
-            let q = p + size bs in
-            let s = steps m p h g in
-            let long = length-drop p m in
-            let here = left-good m p h o g in
-            let ended = sym (ap fault here) ∙ whole in
-            let tights = subst (λ l. Every (Tight m) (entries l)) here tight in
-            let later : eqb q 0 ≡ false = ne-eqb q 0 (λ z. omega (arith, s .on)) in
-            let rest : messageFrom false (contents (left m q)) ≡ drop q m = ap (λ b. messageFrom b (contents (left m q))) (sym later) ∙ rebuild-rest n m q (omega (arith, s .on, s .within)) (s .within) byte ended (tights .1) in
-            let last : none (contents (left m q)) ≡ eqb (size bs) (length bs) = none-at-end m q (omega (arith, s .on)) (s .within) ended ∙ ends-alike p (size bs) (length bs) (length m) h long in
-            let facts = good-facts (eqb p 0) bs g in
-            let top : flagsOf bs ≡ getD m p 0 = getD-drop p m 0 0 ∙ ap (λ n. getD m n 0) (add-zero p) in
-            let same-payload = ap (λ c. length (c .payload)) (content-at m p) ∙ payload-long bs (facts .within) in
-            let same-id = ap (λ c. length (c .id)) (content-at m p) ∙ id-long bs (facts .within) in
-            let again = record-rebuilt (eqb p 0) bs (bytes-drop p m byte) g (ap (has sr) top ∙ tights .0 .short ∙ ap (λ n. leb n 255) same-payload) (ap (has il) top ∙ tights .0 .named ∙ ap (ltb 0) same-id) in
-            ap (λ l. messageFrom (eqb p 0) (contents l)) here ∙ (λ j. encoded (eqb p 0) (last j) (content-at m p j) ++ rest j) ∙ ap (λ l. l ++ drop q m) again ∙ ap (λ l. take (size bs) bs ++ l) (sym (drop-drop (size bs) p m)) ∙ take-append-drop (size bs) bs)
-        (λ g. absurd (some-none (sym (ap fault (left-bad m p o g)) ∙ whole)))
-        (cases-bool (goodAt m p)))
+    ⊎-elim
+    (λ g.
+    let bs = drop p m in
+    let q = p + size bs in
+    let s = steps m p h g in
+    let long = length-drop p m in
+    let here = left-good m p h o g in
+    let ended = sym (ap fault here) ∙ whole in
+    let tights = subst (λ l. Every (Tight m) (entries l)) here tight in
+    let later : eqb q 0 ≡ false = ne-eqb q 0 (λ z. omega (arith, s .on)) in
+    let rest : messageFrom false (contents (left m q)) ≡ drop q m = ap (λ b. messageFrom b (contents (left m q))) (sym later) ∙ rebuild-rest n m q (omega (arith, s .on, s .within)) (s .within) byte ended (tights .1) in
+    let last : none (contents (left m q)) ≡ eqb (size bs) (length bs) = none-at-end m q (omega (arith, s .on)) (s .within) ended ∙ ends-alike p (size bs) (length bs) (length m) h long in
+    let facts = good-facts (eqb p 0) bs g in
+    let top : flagsOf bs ≡ getD m p 0 = getD-drop p m 0 0 ∙ ap (λ n. getD m n 0) (add-zero p) in
+    let same-payload = ap (λ c. length (c .payload)) (content-at m p) ∙ payload-long bs (facts .within) in
+    let same-id = ap (λ c. length (c .id)) (content-at m p) ∙ id-long bs (facts .within) in
+    let again = record-rebuilt (eqb p 0) bs (bytes-drop p m byte) g (ap (has sr) top ∙ tights .0 .short ∙ ap (λ n. leb n 255) same-payload) (ap (has il) top ∙ tights .0 .named ∙ ap (ltb 0) same-id) in
+    ap (λ l. messageFrom (eqb p 0) (contents l)) here ∙ (λ j. encoded (eqb p 0) (last j) (content-at m p j) ++ rest j) ∙ ap (λ l. l ++ drop q m) again ∙ ap (λ l. take (size bs) bs ++ l) (sym (drop-drop (size bs) p m)) ∙ take-append-drop (size bs) bs)
+    (λ g. absurd (some-none (sym (ap fault (left-bad m p o g)) ∙ whole)))
+    (cases-bool (goodAt m p)))
     (cases-bool (over m p))
 
 -- a good message with shortest headers

@@ -23,7 +23,7 @@ use Rattle.ndef.specs.Fields.{Brief}
 use Rattle.ndef.specs.Format.{formatOf, allows}
 use Rattle.ndef.specs.Header.{has, fixed, il}
 use Rattle.ndef.specs.Message.{encoded, encodedLength, none, messageFrom, message, laid, put}
-use Rattle.ndef.specs.Reader.{entryOf, Found, Hands}
+use Rattle.ndef.specs.Reader.{entryOf, Found, Handed, Hands}
 use Rattle.ndef.specs.Reading.{Bytes, flagsOf, kindLength, idLength, size, goodAt, Entry, entryAt, Listing, ended, bad, one, over, left, records, fault, content, contents}
 use Rattle.ndef.proofs.Amounts.{amount, message-length}
 use Rattle.ndef.proofs.Composes.{reads-back}
@@ -59,15 +59,15 @@ goes-on m p e l h same =
     (λ o. ⊎-elim (λ g. record { good = g; entry = ap (first-of e) (sym same ∙ left-good m p h o g) }) (λ g. absurd (let z = ap is-one (sym (left-bad m p o g) ∙ same) in omega arith)) (cases-bool (goodAt m p)))
     (cases-bool (over m p))
 
-module _ (m : List ℕ) (p q : ℕ) (r : Record) (h : p ≤ length m) (handed : Hands m p q (Ok (Some r))) where
+module _ (m : List ℕ) (p q : ℕ) (r : Record) (h : p ≤ length m) (handed : Handed m p q r) where
   pub found-again : Found m p r
   found-again =
-      let g = goes-on m p (entryOf r) (left m q) h (handed .0) in
+      let g = goes-on m p (entryOf r) (left m q) h (handed .next) in
       record { good = g .good; entry = g .entry }
 
   pub moved-on : (p < q) × (q ≤ length m)
   moved-on =
-      let e = handed .1 ∙ behind m p r h found-again in
+      let e = handed .stands ∙ behind m p r h found-again in
       let s = steps m p h (found-again .good) in
       (omega (arith, s .on), omega (arith, s .within))
 
@@ -185,12 +185,12 @@ recomposing-none m held s p e z g =
       good = subst (λ q. fault (left m q) ≡ None) start g;
     }
 
-module _ {m was s₀ s : List ℕ} {at p : ℕ} (so-far : Recomposing m was s₀ s at p) (q : ℕ) (r : Record) (h : p ≤ length m) (handed : Hands m p q (Ok (Some r))) where
+module _ {m was s₀ s : List ℕ} {at p : ℕ} (so-far : Recomposing m was s₀ s at p) (q : ℕ) (r : Record) (h : p ≤ length m) (handed : Handed m p q r) where
   starts : eqb (r .place) 0 ≡ eqb p 0
   starts = ap (λ e. eqb (e .place) 0) (found-again m p q r h handed .entry)
 
   rest-good : fault (left m q) ≡ None
-  rest-good = sym (ap fault (handed .0)) ∙ so-far .good
+  rest-good = sym (ap fault (handed .next)) ∙ so-far .good
 
   ends : over m q ≡ none (contents (left m q))
   ends =
@@ -205,7 +205,7 @@ module _ {m was s₀ s : List ℕ} {at p : ℕ} (so-far : Recomposing m was s₀
       let first = sym starts in
       let last = sym ends in
       subst (Laying (message (contents (records m))) s₀ s at)
-      (ap (λ l. messageFrom (eqb p 0) (contents l)) (handed .0) ∙ (λ j. encoded (first j) (last j) (content (entryOf r)) ++ messageFrom (later j) (contents (left m q))))
+      (ap (λ l. messageFrom (eqb p 0) (contents l)) (handed .next) ∙ (λ j. encoded (first j) (last j) (content (entryOf r)) ++ messageFrom (later j) (contents (left m q))))
       (so-far .laying)
 
   pub next-room : at + encodedLength (content (entryOf r)) ≤ length (message (contents (records m)))
@@ -237,24 +237,24 @@ told-rest (suc n) m p few h small =
     let Q : Listing → Type 0 = λ l. Every Tellable (contents l) in
     ⊎-elim (λ o. subst Q (sym (left-over m p o)) tt)
     (λ o.
-        ⊎-elim
-        (λ g.
-            let bs = drop p m in
-            let s = steps m p h g in
-            let facts = good-facts (eqb p 0) bs g in
-            let here = left-good m p h o g in
-            let more : amount (contents (left m p)) ≡ encodedLength (content (entryAt m p)) + amount (contents (left m (p + size bs))) = ap (λ l. amount (contents l)) here in
-            let same = content-at m p in
-            let k = kind-long bs (facts .within) in
-            let i = id-long bs (facts .within) in
-            let y = payload-long bs (facts .within) in
-            let told : Tellable (contentAt bs) = record {
-                small = subst (λ c. length (c .payload) < 2 ^ 32) same (omega arith);
-                allowed = (λ j. allows (formatOf (flagsOf bs)) (k j) (i j) (y j)) ∙ facts .allowed;
-              } in
-            subst Q (sym here) (subst Tellable (sym same) told, told-rest n m (p + size bs) (omega (arith, s .on, s .within)) (s .within) (omega arith)))
-        (λ g. subst Q (sym (left-bad m p o g)) tt)
-        (cases-bool (goodAt m p)))
+    ⊎-elim
+    (λ g.
+    let bs = drop p m in
+    let s = steps m p h g in
+    let facts = good-facts (eqb p 0) bs g in
+    let here = left-good m p h o g in
+    let more : amount (contents (left m p)) ≡ encodedLength (content (entryAt m p)) + amount (contents (left m (p + size bs))) = ap (λ l. amount (contents l)) here in
+    let same = content-at m p in
+    let k = kind-long bs (facts .within) in
+    let i = id-long bs (facts .within) in
+    let y = payload-long bs (facts .within) in
+    let told : Tellable (contentAt bs) = record {
+      small = subst (λ c. length (c .payload) < 2 ^ 32) same (omega arith);
+      allowed = (λ j. allows (formatOf (flagsOf bs)) (k j) (i j) (y j)) ∙ facts .allowed;
+    } in
+    subst Q (sym here) (subst Tellable (sym same) told, told-rest n m (p + size bs) (omega (arith, s .on, s .within)) (s .within) (omega arith)))
+    (λ g. subst Q (sym (left-bad m p o g)) tt)
+    (cases-bool (goodAt m p)))
     (cases-bool (over m p))
 
 module _ (m : List ℕ) (byte : Bytes m) where

@@ -3,7 +3,7 @@ use mathlib.Core.Path.{_≡_}
 use mathlib.Core.Bool.{Bool, true, false}
 use mathlib.Core.List.{List}
 use Prim.Native.Nat.{ℕ, _+_}
-use lib.ListN.{length, drop}
+use lib.ListN.{length, take, drop}
 use Rattle.std.specs.declared.option.Option.{Option}
 use Rattle.std.specs.declared.option.Option.the-variants.{Some, None}
 use Rattle.std.specs.declared.result.Result.{Result}
@@ -38,10 +38,22 @@ pub record Found (m : List ℕ) (p : ℕ) (r : Record) : Type 0 where
   pub good : goodAt m p ≡ true
   pub entry : entryOf r ≡ entryAt m p
 
--- At a record: that record, and the reader stands behind its payload. At the end: none. At a bad header: the refusal with
--- its place. In the last two cases the reader stays, so the next call answers the same.
+-- a part's bytes are those of m at its place
+abbrev pub Lies : List ℕ → Part → Type 0
+Lies m p = p .bytes .now ≡ take (length (p .bytes .now)) (drop (p .place) m)
+
+-- at a record: that one, its parts where they say; the reader stands behind its payload then
+pub record Handed (m : List ℕ) (p q : ℕ) (r : Record) : Type 0 where
+  pub next : left m p ≡ one (entryOf r) (left m q)
+  pub header : r .place ≡ p
+  pub kind : Lies m (r .kind)
+  pub id : Lies m (r .id)
+  pub payload : Lies m (r .payload)
+  pub stands : q ≡ r .payload .place + length (r .payload .bytes .now)
+
+-- At the end of the message: none. At a bad header: the refusal with its place. In both the reader stays, so the next call
+-- answers the same.
 abbrev pub Hands : List ℕ → ℕ → ℕ → Result (Option Record) RecordRefusal → Type 0
-Hands m p q (Ok (Some r)) =
-    (left m p ≡ one (entryOf r) (left m q)) × (q ≡ r .payload .place + length (r .payload .bytes .now))
+Hands m p q (Ok (Some r)) = Handed m p q r
 Hands m p q (Ok None) = (left m p ≡ ended) × (q ≡ p)
 Hands m p q (Err e) = (left m p ≡ bad p) × (e ≡ BadHeader p) × (q ≡ p)

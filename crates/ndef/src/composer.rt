@@ -28,7 +28,11 @@ fn composed_length(descriptions: &[Description], store: &[u8]) -> Result<usize, 
 }
 
 // Composes the message of the described records into the front of the space, and answers its length.
-pub fn compose(descriptions: &[Description], store: &[u8], space: &mut [u8]) -> Result<usize, RecordRefusal>
+pub fn compose(
+    descriptions: &[Description],
+    store: &[u8],
+    space: &mut [u8],
+) -> Result<usize, RecordRefusal>
     ensures { λ r. ⌜ Composes (now (descriptions .entry)) (now (store .entry)) (now (space .entry)) (now (space .exit)) r ⌝ }
 {
     let total = composed_length(descriptions, store)?;

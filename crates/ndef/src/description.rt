@@ -45,7 +45,8 @@ impl Description {
     {
         self.kind.len <= 255
             && self.id.len <= 255
-            && self.format.allows(self.kind.len, self.id.len, self.payload.len)
+            && self.format
+                .allows(self.kind.len, self.id.len, self.payload.len)
     }
 
     // The fields that it describes, if a record may have them.
@@ -58,6 +59,11 @@ impl Description {
         let kind = self.kind.bytes(store)?;
         let id = self.id.bytes(store)?;
         let payload = self.payload.bytes(store)?;
-        Some(Fields { format: self.format, kind, id, payload })
+        Some(Fields {
+            format: self.format,
+            kind,
+            id,
+            payload,
+        })
     }
 }

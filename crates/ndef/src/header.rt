@@ -4,18 +4,18 @@ ghost use Prim.Native.Nat.{ℕ};
 ghost use Rattle.ndef.specs.Header.{has, fixed};
 
 // MB: the first record of its message.
-pub const FIRST: u8 = 0x80;
+pub(crate) const FIRST: u8 = 0x80;
 // ME: the last one.
-pub const LAST: u8 = 0x40;
+pub(crate) const LAST: u8 = 0x40;
 // CF: a chunk of a record.
-pub const CHUNK: u8 = 0x20;
+pub(crate) const CHUNK: u8 = 0x20;
 // SR: a payload length of one byte.
-pub const SHORT: u8 = 0x10;
+pub(crate) const SHORT: u8 = 0x10;
 // IL: an ID length is there.
-pub const NAMED: u8 = 0x08;
+pub(crate) const NAMED: u8 = 0x08;
 
 // Whether a bit of the first byte is set.
-pub fn is_set(flags: u8, bit: u8) -> bool
+pub(crate) fn is_set(flags: u8, bit: u8) -> bool
     ensures { λ r. ⌜ r ≡ has bit flags ⌝ }
 {
     flags & bit != 0

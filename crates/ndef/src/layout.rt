@@ -17,12 +17,12 @@ use crate::header::fixed_length;
 use crate::header::is_set;
 
 #[derive(Clone, Copy)]
-pub struct Layout {
-    pub format: Format,
-    pub fixed: usize,
-    pub kind: usize,
-    pub id: usize,
-    pub payload: usize,
+pub(crate) struct Layout {
+    pub(crate) format: Format,
+    pub(crate) fixed: usize,
+    pub(crate) kind: usize,
+    pub(crate) id: usize,
+    pub(crate) payload: usize,
 }
 
 fn payload_length(bytes: &[u8], flags: u8) -> usize
@@ -51,7 +51,7 @@ fn id_length(bytes: &[u8], flags: u8) -> usize
 
 impl Layout {
     // The layout of the record whose header begins `bytes`, if it is good; `first` says whether it is the message's first.
-    pub fn read(bytes: &[u8], first: bool) -> Option<Layout>
+    pub(crate) fn read(bytes: &[u8], first: bool) -> Option<Layout>
         ensures { λ r. ⌜ BySome r (good first (now (bytes .entry)) ≡ false) (λ l. Lays first (now (bytes .entry)) l) ⌝ }
     {
         if bytes.is_empty() {
@@ -73,7 +73,13 @@ impl Layout {
             && !is_set(flags, CHUNK)
             && format.allows(kind, id, payload)
         {
-            Some(Layout { format, fixed, kind, id, payload })
+            Some(Layout {
+                format,
+                fixed,
+                kind,
+                id,
+                payload,
+            })
         } else {
             None
         }

@@ -40,7 +40,13 @@ fn record_at(message: &[u8], place: usize) -> Option<Record<'_>>
     let kind = part(message, place + layout.fixed, layout.kind);
     let id = part(message, kind.place + layout.kind, layout.id);
     let payload = part(message, id.place + layout.id, layout.payload);
-    Some(Record { place, format: layout.format, kind, id, payload })
+    Some(Record {
+        place,
+        format: layout.format,
+        kind,
+        id,
+        payload,
+    })
 }
 
 impl<'a> Reader<'a> {

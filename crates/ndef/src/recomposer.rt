@@ -34,7 +34,9 @@ pub fn recompose(message: &[u8], space: &mut [u8]) -> Result<usize, RecordRefusa
     let mut reader = Reader::new(message);
     let mut at = 0;
     while let Some(record) = reader.next_record()? {
-        at = record.fields().lay(space, at, record.place == 0, reader.is_over());
+        at = record
+            .fields()
+            .lay(space, at, record.place == 0, reader.is_over());
     }
     Ok(total)
 }

@@ -23,10 +23,10 @@ lay-at-requires c κs =
 pub loop-index-again : need.loop-index-again
 loop-index-again c =
     elim (c .match-fields .came) [
-      in-Some w ↦
-        gone (c .loop-index .inv) (c .loop-index-test .taken) _ (w .in-Some .fields) (w .in-Some .ensures tt) _ _ (w .space-is ∙ w .lay-at .ensures .after) (w .at-is ∙ w .lay-at .ensures .value)
-    | in-rest w ↦
-        absurd (true≢false (sym (here-good (c .loop-index .inv) _ (c .loop-index-test .taken)) ∙ w .in-rest .ensures tt))
+      | in-Some w ↦
+          gone (c .loop-index .inv) (c .loop-index-test .taken) _ (w .in-Some .fields) (w .in-Some .ensures tt) _ _ (w .space-is ∙ w .lay-at .ensures .after) (w .at-is ∙ w .lay-at .ensures .value)
+      | in-rest w ↦
+          absurd (true≢false (sym (here-good (c .loop-index .inv) _ (c .loop-index-test .taken)) ∙ w .in-rest .ensures tt))
     ]
 
 pub returns-in-Break-total : need.returns-in-Break-total

@@ -8,7 +8,7 @@ use Rattle.std.specs.declared.result.Result.the-variants.{Ok, Err}
 use Rattle.std.proofs.shelf.Results.{err-from-errBy}
 use Rattle.ndef.specs.Fields.{Brief}
 use Rattle.ndef.specs.Message.{encoded, encodedLength, put}
-use Rattle.ndef.specs.Reader.{entryOf, Hands}
+use Rattle.ndef.specs.Reader.{entryOf, Handed, Hands}
 use Rattle.ndef.specs.Reading.{content, fault, over}
 use Rattle.ndef.proofs.Rebuilt.{some-none}
 use Rattle.ndef.proofs.Recomposes.{Whole, whole-of, refused-again, short-again, of-message, moved-on, handed-brief, recomposing-none, next-room, recomposing-more, recomposes-not, recomposes}
@@ -21,7 +21,7 @@ known c = whole-of (c .args .message .now) _ (c .in-Continue-total .ensures tt)
 within : (c : In-Some) → c .loop-record .reader .place ≤ length (c .args .message .now)
 within c = subst (λ l. c .loop-record .reader .place ≤ length l) (c .loop-record .inv .of-it) (c .loop-record .reader .within)
 
-handed : (c : In-Some) → Hands (c .args .message .now) (c .loop-record .reader .place) (c .next-record .last .self .place) (Ok (Some (c .in-Some .record)))
+handed : (c : In-Some) → Handed (c .args .message .now) (c .loop-record .reader .place) (c .next-record .last .self .place) (c .in-Some .record)
 handed c = of-message _ _ (c .loop-record .inv .of-it) (ap Ok (c .in-Some .is)) (c .in-Continue-record .ensures tt .hands)
 
 pub returns-in-Break-total : need.returns-in-Break-total
@@ -46,8 +46,7 @@ lay-at-requires c κs =
     let w = known (need.at·lay-at-requires c .In-Continue-total) in
     let room = next-room (c .loop-record .inv) _ (c .in-Some .record) (within s) (handed s) in
     let size = ap encodedLength same in
-    let long = ap (λ x. length (x .payload)) same in
-    (
+    let long = ap (λ x. length (x .payload)) same in (
       subst Brief (sym same) (handed-brief _ _ _ (c .in-Some .record) (within s) (handed s) (λ k. c .typed .message k .fits)),
       omega (arith, w .short, c .loop-record .kept .space),
       omega (arith, w .is, c .if-space-total .left, c .loop-record .kept .space),
@@ -73,7 +72,7 @@ loop-record-again c =
 pub returns-in-Break-record : need.returns-in-Break-record
 returns-in-Break-record c =
     let h : Hands (c .args .message .now) (c .loop-record .reader .place) (c .next-record .last .self .place) (Err (c .in-Break-record .field-0 .0)) =
-      of-message (c .loop-record .reader .place) (c .next-record .last .self .place) {a = Err (c .in-Break-record .field-0 .0)} (c .loop-record .inv .of-it) refl (c .in-Break-record .ensures tt .hands) in
+    of-message (c .loop-record .reader .place) (c .next-record .last .self .place) {a = Err (c .in-Break-record .field-0 .0)} (c .loop-record .inv .of-it) refl (c .in-Break-record .ensures tt .hands) in
     absurd (some-none (sym (ap fault (h .0)) ∙ c .loop-record .inv .good))
 
 pub returns : need.returns

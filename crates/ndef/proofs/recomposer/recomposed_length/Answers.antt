@@ -7,7 +7,7 @@ use Rattle.std.specs.declared.result.Result.the-variants.{Ok, Err}
 use Rattle.std.proofs.shelf.Results.{err-from-errBy}
 use Rattle.ndef.specs.Fields.{Brief}
 use Rattle.ndef.specs.Message.{encodedLength}
-use Rattle.ndef.specs.Reader.{Hands}
+use Rattle.ndef.specs.Reader.{Handed, Hands}
 use Rattle.ndef.specs.Reading.{ended, left}
 use Rattle.ndef.proofs.Recomposes.{recounted-none, recounted-more, recounted-bad, recounted-long, recounted-all, of-message, moved-on, handed-brief}
 use Rattle.ndef.proofs.recomposer.recomposed_length.Needs as need
@@ -16,7 +16,7 @@ use Rattle.ndef.proofs.recomposer.recomposed_length.Needs.{In-Some, In-rest}
 within : (c : In-Some) → c .loop-record .reader .place ≤ length (c .args .message .now)
 within c = subst (λ l. c .loop-record .reader .place ≤ length l) (c .loop-record .inv .of-it) (c .loop-record .reader .within)
 
-handed : (c : In-Some) → Hands (c .args .message .now) (c .loop-record .reader .place) (c .next-record .last .self .place) (Ok (Some (c .in-Some .record)))
+handed : (c : In-Some) → Handed (c .args .message .now) (c .loop-record .reader .place) (c .next-record .last .self .place) (c .in-Some .record)
 handed c = of-message _ _ (c .loop-record .inv .of-it) (ap Ok (c .in-Some .is)) (c .in-Continue-record .ensures tt .hands)
 
 pub loop-record-holds : need.loop-record-holds
@@ -26,7 +26,7 @@ pub returns-in-Break-record : need.returns-in-Break-record
 returns-in-Break-record c =
     let p = err-from-errBy (c .from-residual .result) (c .from-residual .ensures .1) in
     let h : Hands (c .args .message .now) (c .loop-record .reader .place) (c .next-record .last .self .place) (Err (c .in-Break-record .field-0 .0)) =
-      of-message (c .loop-record .reader .place) (c .next-record .last .self .place) {a = Err (c .in-Break-record .field-0 .0)} (c .loop-record .inv .of-it) refl (c .in-Break-record .ensures tt .hands) in
+    of-message (c .loop-record .reader .place) (c .next-record .last .self .place) {a = Err (c .in-Break-record .field-0 .0)} (c .loop-record .inv .of-it) refl (c .in-Break-record .ensures tt .hands) in
     rw (p .1, p .2) (ap Err (h .1) ∙ recounted-bad (c .loop-record .inv) _ (h .0))
 
 pub encoded-length-requires : need.encoded-length-requires
@@ -44,7 +44,7 @@ pub loop-record-again : need.loop-record-again
 loop-record-again c =
     let s = need.at·loop-record-again c .In-Some in
     let size = c .encoded-length .ensures ∙ ap encodedLength (c .fields .ensures) in
-    recounted-more (c .loop-record .inv) _ (c .in-Some .record) _ _ (c .in-Continue-record .ensures tt .message ∙ c .loop-record .inv .of-it) (handed s .0)
+    recounted-more (c .loop-record .inv) _ (c .in-Some .record) _ _ (c .in-Continue-record .ensures tt .message ∙ c .loop-record .inv .of-it) (handed s .next)
     (c .saturating-add-total .ensures ∙ ap (λ n. min (c .loop-record .total + n) 18446744073709551615) size)
 
 over : (c : In-rest) → left (c .args .message .now) (c .loop-record .reader .place) ≡ ended

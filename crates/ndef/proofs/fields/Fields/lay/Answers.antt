@@ -15,9 +15,9 @@ returns c =
     let room : c .args .at ≤ length (c .args .space .now) = omega arith in
     let flags = c .flags .ensures in
     let start : Laid (c .args .space .now) (c .args .at) (_ ∷ _ ∷ []) _ _ = record {
-        after = c .put-kind-at .ensures .after ∙ ap (λ h. put (c .args .space .now) (c .args .at) (h ∷ length (f .kind .now) ∷ [])) flags;
-        value = c .put-kind-at .ensures .value;
-      } in
+      after = c .put-kind-at .ensures .after ∙ ap (λ h. put (c .args .space .now) (c .args .at) (h ∷ length (f .kind .now) ∷ [])) flags;
+      value = c .put-kind-at .ensures .value;
+    } in
     let p = c .put-payload-length-payload-at .ensures in
     let i = c .put-id-length-fixed-end .ensures in
     let k = c .put-kind-end .ensures in
