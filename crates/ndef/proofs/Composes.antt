@@ -23,6 +23,7 @@ use Rattle.ndef.specs.Composing.{described, sound, firstBad, longest, fitted, 
 use Rattle.ndef.specs.Content.{Content}
 use Rattle.ndef.specs.Describing.{Describes}
 use Rattle.ndef.specs.Fields.{contentOf, Brief}
+use Rattle.ndef.specs.Lengths.{Composable, ComposedLength}
 use Rattle.ndef.specs.Message.{encoded, encodedLength, none, messageFrom, message, laid, put}
 use Rattle.ndef.proofs.Amounts.{amount, message-length}
 use Rattle.ndef.proofs.Described.{description-told}
@@ -70,13 +71,14 @@ module _ (store : List ℕ) (ds : List Description) where
       record { good = a .good; some = a .some; is = a .sized .is; short = a .sized .short }
 
   -- a refusal leaves the space as it was
-  pub composes-not : (s : List ℕ) (e : RecordRefusal) → Err e ≡ composed store ds (length s) → Composes ds store s s (Err e)
+  composes-not : (s : List ℕ) (e : RecordRefusal) → Err e ≡ composed store ds (length s) → Composes ds store s s (Err e)
   composes-not s e p = record { answer = p; after = refl; reads = λ n q. absurd (no-answer q) }
 
-  pub refused-too : (e : RecordRefusal) (room : ℕ) → Err e ≡ composed store ds (length (message cs)) → Err e ≡ composed store ds room
-  refused-too e room p = sym (refusing (firstBad store 0 ds) cs e room (sym p))
+  -- a refusal by the length stands whatever the space is
+  pub refused-length : (e : RecordRefusal) → Err e ≡ composed store ds (length (message cs)) → ComposedLength ds store (Err e)
+  refused-length e p space = composes-not space e (sym (refusing (firstBad store 0 ds) cs e (length space) (sym p)))
 
-  pub short-space : (total : ℕ) (room : ℕ) → Ready store ds total → room < total → Err SpaceShort ≡ composed store ds room
+  short-space : (total : ℕ) (room : ℕ) → Ready store ds total → room < total → Err SpaceShort ≡ composed store ds room
   short-space total room r h =
       let is = r .is in
       sym (ap (λ o. composedBy o cs room) (r .good) ∙ cond-false _ _ _ (r .some) ∙ fitted-short (message cs) room (r .short) (omega arith))
@@ -144,10 +146,8 @@ pub record Goes (f : Fields) (at room : ℕ) : Type 0 where
   pub fits : at + encodedLength (contentOf f) ≤ room
 
 module _ {store : List ℕ} {ds : List Description} {s₀ s : List ℕ} {at i : ℕ} (so-far : Composing store ds s₀ s at i) (h : i < length ds) (x : Description) (f : Fields) (told : Describes store (getD ds i x) f) where
-  pub goes : (total room : ℕ) → Ready store ds total → total ≤ room → Goes f at room
-  goes total room r fits =
-      let is = r .is in
-      let short = r .short in
+  pub goes : (room : ℕ) → length (message (map (described store) ds)) ≤ longest → length (message (map (described store) ds)) ≤ room → Goes f at room
+  goes room short fits =
       let here = here-fits so-far x h in
       let same = told .content in
       let size : encodedLength (contentOf f) ≡ encodedLength (described store (getD ds i x)) = ap encodedLength same in
@@ -173,17 +173,33 @@ pub reads-back : (cs : List Content) → none cs ≡ false → Every Tellable cs
 reads-back [] e t = absurd (true≢false e)
 reads-back (c ∷ cs) e t = let r = read-back c cs t in record { whole = r .whole; same = r .same }
 
-pub composes : (store : List ℕ) (ds : List Description) (s₀ s : List ℕ) (at i total : ℕ) → Ready store ds total → total ≤ length s₀ → length ds ≤ i → Composing store ds s₀ s at i → Composes ds store s₀ s (Ok total)
-composes store ds s₀ s at i total r room over l =
-    let cs = map (described store) ds in
-    let is = r .is in
-    let all : s ≡ laid (message cs) s₀ = laying-all (subst (Laying (message cs) s₀ s at) (ap (λ x. messageFrom (eqb i 0) (map (described store) x)) (drop-all i ds over)) (l .laying)) in
-    let long = message-length true cs in
-    record {
-      answer = sym (ap (λ o. composedBy o cs (length s₀)) (r .good) ∙ cond-false _ _ _ (r .some) ∙ fitted-fits (message cs) (length s₀) (r .short) (omega arith) ∙ ap Ok (sym is));
-      after = all;
-      reads = λ n e.
-          let same : length (message cs) ≡ n = sym is ∙ (cc) in
-          subst (λ m. ReadAs m cs) (sym (ap (take n) all ∙ take-at (message cs) _ n same))
-          (reads-back cs (r .some) (all-told store ds 0 (r .good) (omega (arith, r .short))));
-    }
+module _ (store : List ℕ) (ds : List Description) (total : ℕ) (r : Ready store ds total) where
+  enough : (s₀ s : List ℕ) → total ≤ length s₀ → s ≡ laid (message (map (described store) ds)) s₀ → Composes ds store s₀ s (Ok total)
+  enough s₀ s room all =
+      let cs = map (described store) ds in
+      let is = r .is in
+      let long = message-length true cs in
+      record {
+        answer = sym (ap (λ o. composedBy o cs (length s₀)) (r .good) ∙ cond-false _ _ _ (r .some) ∙ fitted-fits (message cs) (length s₀) (r .short) (omega arith) ∙ ap Ok (sym is));
+        after = all;
+        reads = λ n e.
+            let same : length (message cs) ≡ n = sym is ∙ (cc) in
+            subst (λ m. ReadAs m cs) (sym (ap (take n) all ∙ take-at (message cs) _ n same))
+            (reads-back cs (r .some) (all-told store ds 0 (r .good) (omega (arith, r .short))));
+      }
+
+  pub composable : Composable ds store total
+  composable =
+      let is = r .is in
+      record {
+        good = r .good;
+        is = is;
+        few = omega (arith, r .short);
+        short = λ space h. composes-not store ds space SpaceShort (short-space store ds total (length space) r h);
+        enough = enough;
+      }
+
+-- all is laid
+pub composed-all : (store : List ℕ) (ds : List Description) (s₀ s : List ℕ) (at i : ℕ) → length ds ≤ i → Composing store ds s₀ s at i → s ≡ laid (message (map (described store) ds)) s₀
+composed-all store ds s₀ s at i over l =
+    laying-all (subst (Laying (message (map (described store) ds)) s₀ s at) (ap (λ x. messageFrom (eqb i 0) (map (described store) x)) (drop-all i ds over)) (l .laying))

@@ -22,6 +22,7 @@ use Rattle.ndef.specs.Content.{Content}
 use Rattle.ndef.specs.Fields.{Brief}
 use Rattle.ndef.specs.Format.{formatOf, allows}
 use Rattle.ndef.specs.Header.{has, fixed, il}
+use Rattle.ndef.specs.Lengths.{Recomposable, RecomposedLength}
 use Rattle.ndef.specs.Message.{encoded, encodedLength, none, messageFrom, message, laid, put}
 use Rattle.ndef.specs.Reader.{entryOf, Found, Handed, Hands}
 use Rattle.ndef.specs.Reading.{Bytes, flagsOf, kindLength, idLength, size, goodAt, Entry, entryAt, Listing, ended, bad, one, over, left, records, fault, content, contents}
@@ -162,10 +163,10 @@ module _ (m : List ℕ) where
       let a = answered (fault (records m)) (contents (records m)) total (sym e) in
       record { good = a .good; is = a .sized .is; short = a .sized .short }
 
-  pub refused-again : (e : RecordRefusal) (room : ℕ) → Err e ≡ recomposed m (length (message (contents (records m)))) → Err e ≡ recomposed m room
+  refused-again : (e : RecordRefusal) (room : ℕ) → Err e ≡ recomposed m (length (message (contents (records m)))) → Err e ≡ recomposed m room
   refused-again e room q = sym (refusing (fault (records m)) (contents (records m)) e room (sym q))
 
-  pub short-again : (total room : ℕ) → Whole m total → room < total → Err SpaceShort ≡ recomposed m room
+  short-again : (total room : ℕ) → Whole m total → room < total → Err SpaceShort ≡ recomposed m room
   short-again total room w h =
       let is = w .is in
       sym (ap (λ o. recomposedBy o (contents (records m)) room) (w .good) ∙ fitted-short (message (contents (records m))) room (w .short) (omega arith))
@@ -263,7 +264,7 @@ module _ (m : List ℕ) (byte : Bytes m) where
   answered-same room g tight h r =
       ap (λ o. recomposedBy o (contents (records m)) room) g ∙ ap (λ x. fitted x room) (rebuilds m byte g tight) ∙ fitted-fits m room h r
 
-  pub recomposes-not : (s : List ℕ) (e : RecordRefusal) → Err e ≡ recomposed m (length s) → Recomposes m s s (Err e)
+  recomposes-not : (s : List ℕ) (e : RecordRefusal) → Err e ≡ recomposed m (length s) → Recomposes m s s (Err e)
   recomposes-not s e q =
       record {
         answer = q;
@@ -272,21 +273,41 @@ module _ (m : List ℕ) (byte : Bytes m) where
         same = λ g tight h r. absurd (no-answer (q ∙ answered-same (length s) g tight h r));
       }
 
-  pub recomposes : (held s₀ s : List ℕ) (at p total : ℕ) → Whole m total → total ≤ length s₀ → left m p ≡ ended → Recomposing m held s₀ s at p → Recomposes m s₀ s (Ok total)
-  recomposes held s₀ s at p total w room over l =
-      let cs = contents (records m) in
-      let is = w .is in
-      let short = w .short in
-      let all : s ≡ laid (message cs) s₀ = laying-all (subst (Laying (message cs) s₀ s at) (ap (λ x. messageFrom (eqb p 0) (contents x)) over) (l .laying)) in
-      let long = message-length true cs in
-      let front : (n : ℕ) → length (message cs) ≡ n → take n s ≡ message cs = λ n e. ap (take n) all ∙ take-at (message cs) _ n e in
-      record {
-        answer = sym (ap (λ o. recomposedBy o cs (length s₀)) (w .good) ∙ fitted-fits (message cs) (length s₀) short (omega arith) ∙ ap Ok (sym is));
-        after = all;
-        reads = λ n e.
-            let same : length (message cs) ≡ n = sym is ∙ (cc) in
-            subst (λ x. ReadAs x cs) (sym (front n same)) (reads-back cs (some-first m (w .good)) (told-rest (suc (length m)) m 0 (omega arith) (omega arith) (omega arith)));
-        same = λ g tight h r.
-            let again = rebuilds m byte g tight in
-            (ap Ok (is ∙ ap length again), front (length m) (ap length again) ∙ again);
-      }
+  -- a refusal by the length stands whatever the space is
+  pub refused-length : (e : RecordRefusal) → Err e ≡ recomposed m (length (message (contents (records m)))) → RecomposedLength m (Err e)
+  refused-length e q space = recomposes-not space e (refused-again m e (length space) q)
+
+  module _ (total : ℕ) (w : Whole m total) where
+    enough : (s₀ s : List ℕ) → total ≤ length s₀ → s ≡ laid (message (contents (records m))) s₀ → Recomposes m s₀ s (Ok total)
+    enough s₀ s room all =
+        let cs = contents (records m) in
+        let is = w .is in
+        let short = w .short in
+        let long = message-length true cs in
+        let front : (n : ℕ) → length (message cs) ≡ n → take n s ≡ message cs = λ n e. ap (take n) all ∙ take-at (message cs) _ n e in
+        record {
+          answer = sym (ap (λ o. recomposedBy o cs (length s₀)) (w .good) ∙ fitted-fits (message cs) (length s₀) short (omega arith) ∙ ap Ok (sym is));
+          after = all;
+          reads = λ n e.
+              let same : length (message cs) ≡ n = sym is ∙ (cc) in
+              subst (λ x. ReadAs x cs) (sym (front n same)) (reads-back cs (some-first m (w .good)) (told-rest (suc (length m)) m 0 (omega arith) (omega arith) (omega arith)));
+          same = λ g tight h r.
+              let again = rebuilds m byte g tight in
+              (ap Ok (is ∙ ap length again), front (length m) (ap length again) ∙ again);
+        }
+
+    pub recomposable : Recomposable m total
+    recomposable =
+        let is = w .is in
+        record {
+          good = w .good;
+          is = is;
+          few = omega (arith, w .short);
+          short = λ space h. recomposes-not space SpaceShort (short-again m total (length space) w h);
+          enough = enough;
+        }
+
+-- all is laid
+pub recomposed-all : (m held s₀ s : List ℕ) (at p : ℕ) → left m p ≡ ended → Recomposing m held s₀ s at p → s ≡ laid (message (contents (records m))) s₀
+recomposed-all m held s₀ s at p over l =
+    laying-all (subst (Laying (message (contents (records m))) s₀ s at) (ap (λ x. messageFrom (eqb p 0) (contents x)) over) (l .laying))

@@ -4,6 +4,7 @@ pub mod Describing
 pub mod Fields
 pub mod Format
 pub mod Header
+pub mod Lengths
 pub mod Message
 pub mod Reader
 pub mod Reading

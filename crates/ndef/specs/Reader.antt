@@ -2,7 +2,7 @@
 use mathlib.Core.Path.{_≡_}
 use mathlib.Core.Bool.{Bool, true, false}
 use mathlib.Core.List.{List}
-use Prim.Native.Nat.{ℕ, _+_}
+use Prim.Native.Nat.{ℕ, _+_, _≤_}
 use lib.ListN.{length, take, drop}
 use Rattle.std.specs.declared.option.Option.{Option}
 use Rattle.std.specs.declared.option.Option.the-variants.{Some, None}
@@ -50,6 +50,16 @@ pub record Handed (m : List ℕ) (p q : ℕ) (r : Record) : Type 0 where
   pub id : Lies m (r .id)
   pub payload : Lies m (r .payload)
   pub stands : q ≡ r .payload .place + length (r .payload .bytes .now)
+
+-- the place behind a record
+abbrev pub behind : Record → ℕ
+behind r = r .payload .place + length (r .payload .bytes .now)
+
+-- what there is at p
+abbrev pub Next : List ℕ → ℕ → Result (Option Record) RecordRefusal → Type 0
+Next m p (Ok (Some r)) = Handed m p (behind r) r × (behind r ≤ length m)
+Next m p (Ok None) = left m p ≡ ended
+Next m p (Err e) = (left m p ≡ bad p) × (e ≡ BadHeader p)
 
 -- At the end of the message: none. At a bad header: the refusal with its place. In both the reader stays, so the next call
 -- answers the same.

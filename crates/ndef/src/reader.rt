@@ -5,7 +5,7 @@ ghost use Prim.Native.Nat.{ℕ, _+_, _≤_};
 ghost use denote.Ref.{now as held};
 ghost use lib.ListN.{length};
 ghost use Rattle.std.specs.Options.{Cases as BySome};
-ghost use Rattle.ndef.specs.Reader.{Found, Hands, stretchOf};
+ghost use Rattle.ndef.specs.Reader.{Found, Hands, Next, stretchOf};
 ghost use Rattle.ndef.specs.Reading.{goodAt, over, stretch};
 use crate::layout::Layout;
 use crate::record::Part;
@@ -49,6 +49,27 @@ fn record_at(message: &[u8], place: usize) -> Option<Record<'_>>
     })
 }
 
+// Whether the message is over at `place`: there was a record, and nothing is left.
+fn over_at(message: &[u8], place: usize) -> bool
+    ensures { λ r. ⌜ r ≡ over (now (message .entry)) place ⌝ }
+{
+    place > 0 && place == message.len()
+}
+
+// What a reader of the message hands out at `place`.
+fn next_at(message: &[u8], place: usize) -> Result<Option<Record<'_>>, RecordRefusal>
+    requires { ⌜ place ≤ length (now message) ⌝ }
+    ensures { λ r. ⌜ Next (now (message .entry)) place r ⌝ }
+{
+    if over_at(message, place) {
+        return Ok(None);
+    }
+    match record_at(message, place) {
+        Some(record) => Ok(Some(record)),
+        None => Err(RecordRefusal::BadHeader { place }),
+    }
+}
+
 impl<'a> Reader<'a> {
     // A reader that stands at the message's first header.
     pub fn new(message: &'a [u8]) -> Reader<'a>
@@ -62,7 +83,7 @@ impl<'a> Reader<'a> {
     pub fn is_over(&self) -> bool
         ensures { λ r. ⌜ r ≡ over (now (now (self .entry) .message)) (now (self .entry) .place) ⌝ }
     {
-        self.place > 0 && self.place == self.message.len()
+        over_at(self.message, self.place)
     }
 
     // The next record; none behind the last one; a refusal at a bad header, now and at each later call.
@@ -70,15 +91,12 @@ impl<'a> Reader<'a> {
         ensures message { λ _. ⌜ now (now (self .exit) .message) ≡ now (now (self .entry) .message) ⌝ }
         ensures hands { λ r. ⌜ Hands (now (now (self .entry) .message)) (now (self .entry) .place) (now (self .exit) .place) r ⌝ }
     {
-        if self.is_over() {
-            return Ok(None);
-        }
-        match record_at(self.message, self.place) {
+        match next_at(self.message, self.place)? {
             Some(record) => {
                 self.place = record.payload.place + record.payload.bytes.len();
                 Ok(Some(record))
             }
-            None => Err(RecordRefusal::BadHeader { place: self.place }),
+            None => Ok(None),
         }
     }
 }

@@ -9,7 +9,7 @@ use Rattle.ndef.specs.Fields.{Brief}
 use Rattle.ndef.specs.Message.{encodedLength}
 use Rattle.ndef.specs.Reader.{Handed, Hands}
 use Rattle.ndef.specs.Reading.{ended, left}
-use Rattle.ndef.proofs.Recomposes.{recounted-none, recounted-more, recounted-bad, recounted-long, recounted-all, of-message, moved-on, handed-brief}
+use Rattle.ndef.proofs.Recomposes.{recounted-none, recounted-more, recounted-bad, recounted-long, recounted-all, of-message, moved-on, handed-brief, refused-length, whole-of, recomposable}
 use Rattle.ndef.proofs.recomposer.recomposed_length.Needs as need
 use Rattle.ndef.proofs.recomposer.recomposed_length.Needs.{In-Some, In-rest}
 
@@ -27,7 +27,7 @@ returns-in-Break-record c =
     let p = err-from-errBy (c .from-residual .result) (c .from-residual .ensures .1) in
     let h : Hands (c .args .message .now) (c .loop-record .reader .place) (c .next-record .last .self .place) (Err (c .in-Break-record .field-0 .0)) =
     of-message (c .loop-record .reader .place) (c .next-record .last .self .place) {a = Err (c .in-Break-record .field-0 .0)} (c .loop-record .inv .of-it) refl (c .in-Break-record .ensures tt .hands) in
-    rw (p .1, p .2) (ap Err (h .1) ∙ recounted-bad (c .loop-record .inv) _ (h .0))
+    rw (p .1, p .2) (refused-length _ (λ k. c .typed .message k .fits) _ (ap Err (h .1) ∙ recounted-bad (c .loop-record .inv) _ (h .0)))
 
 pub encoded-length-requires : need.encoded-length-requires
 encoded-length-requires c κs =
@@ -52,7 +52,9 @@ over c = of-message _ (c .next-record .last .self .place) (c .loop-record .inv .
 
 pub returns-then-total-gt-LONGEST : need.returns-then-total-gt-LONGEST
 returns-then-total-gt-LONGEST c =
-    recounted-long (c .loop-record .inv) (over (need.at·returns-then-total-gt-LONGEST c .In-rest)) _ (c .if-total-gt-LONGEST .taken)
+    refused-length _ (λ k. c .typed .message k .fits) _ (recounted-long (c .loop-record .inv) (over (need.at·returns-then-total-gt-LONGEST c .In-rest)) _ (c .if-total-gt-LONGEST .taken))
 
 pub returns : need.returns
-returns c = recounted-all (c .loop-record .inv) (over (need.at·returns c .In-rest)) (c .if-total-gt-LONGEST .left)
+returns c =
+    recomposable _ (λ k. c .typed .message k .fits) _
+    (whole-of _ _ (recounted-all (c .loop-record .inv) (over (need.at·returns c .In-rest)) (c .if-total-gt-LONGEST .left)))

@@ -1,7 +1,7 @@
 use Prim.Native.Nat.{_-_}
 use lib.ListN.{length}
 use Rattle.ndef.proofs.Recomposes.{Recomposing}
-use Rattle.ndef.proofs.recomposer.recompose.Given as given
+use Rattle.ndef.proofs.recomposer.lay_again.Given as given
 
 abbrev pub Inv-loop-record : given.InvT-loop-record
 Inv-loop-record l = Recomposing (l .message) (l .reader .message .now) (l .entry .space) (l .space) (l .at) (l .reader .place)
