@@ -1,0 +1,8 @@
+-- How a rehearsal follows another.
+use mathlib.Core.Path.{_≡_}
+use Rattle.gate.specs.declared.rehearsal.Rehearsal.{Rehearsal}
+use Rattle.gate.specs.Drafts.{Same}
+
+-- both have the same records to compose, and the same message
+abbrev pub Unchanged : Rehearsal → Rehearsal → Type 0
+Unchanged old new = Same (old .draft) (new .draft) × (new .message ≡ old .message)
