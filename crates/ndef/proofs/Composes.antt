@@ -24,12 +24,13 @@ use Rattle.ndef.specs.Content.{Content}
 use Rattle.ndef.specs.Describing.{Describes}
 use Rattle.ndef.specs.Fields.{contentOf, Brief}
 use Rattle.ndef.specs.Lengths.{Composable, ComposedLength}
-use Rattle.ndef.specs.Message.{encoded, encodedLength, none, messageFrom, message, laid, put}
+use Rattle.ndef.specs.Message.{encoded, encodedLength, none, messageFrom, message}
+use Rattle.space.specs.Space.{laid, put}
 use Rattle.ndef.proofs.Amounts.{amount, message-length}
 use Rattle.ndef.proofs.Described.{description-told}
 use Rattle.ndef.proofs.Encoded.{encoded-length}
 use Rattle.ndef.proofs.Fitted.{Sized, no-answer, fitted-ok, fitted-err, fitted-fits, fitted-short}
-use Rattle.ndef.proofs.Laying.{Laying, laying-none, laying-more, laying-all, next-fits}
+use Rattle.space.proofs.Laying.{Laying, laying-none, laying-more, laying-all, next-fits}
 use Rattle.ndef.proofs.ReadBack.{Tellable, Rest, read-back}
 use Rattle.ndef.proofs.Rebuilt.{some-none}
 

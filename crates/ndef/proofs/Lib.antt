@@ -6,9 +6,7 @@ pub mod Encoded
 pub mod Finds
 pub mod Fitted
 pub mod Flags
-pub mod Laying
 pub mod Listings
-pub mod Puts
 pub mod ReadBack
 pub mod Recomposes
 pub mod Rebuilt

@@ -23,7 +23,8 @@ use Rattle.ndef.specs.Fields.{Brief}
 use Rattle.ndef.specs.Format.{formatOf, allows}
 use Rattle.ndef.specs.Header.{has, fixed, il}
 use Rattle.ndef.specs.Lengths.{Recomposable, RecomposedLength}
-use Rattle.ndef.specs.Message.{encoded, encodedLength, none, messageFrom, message, laid, put}
+use Rattle.ndef.specs.Message.{encoded, encodedLength, none, messageFrom, message}
+use Rattle.space.specs.Space.{laid, put}
 use Rattle.ndef.specs.Reader.{entryOf, Found, Handed, Hands}
 use Rattle.ndef.specs.Reading.{Bytes, flagsOf, kindLength, idLength, size, goodAt, Entry, entryAt, Listing, ended, bad, one, over, left, records, fault, content, contents}
 use Rattle.ndef.proofs.Amounts.{amount, message-length}
@@ -31,7 +32,7 @@ use Rattle.ndef.proofs.Composes.{reads-back}
 use Rattle.ndef.proofs.Encoded.{contentAt, content-at, encoded-length}
 use Rattle.ndef.proofs.Finds.{behind, behind-within}
 use Rattle.ndef.proofs.Fitted.{Sized, no-answer, fitted-ok, fitted-err, fitted-fits, fitted-long, fitted-short}
-use Rattle.ndef.proofs.Laying.{Laying, laying-none, laying-more, laying-all, next-fits}
+use Rattle.space.proofs.Laying.{Laying, laying-none, laying-more, laying-all, next-fits}
 use Rattle.ndef.proofs.Listings.{good-facts, Steps, steps, left-over, left-good, left-bad}
 use Rattle.ndef.proofs.ReadBack.{Tellable}
 use Rattle.ndef.proofs.Rebuilt.{kind-long, id-long, payload-long, none-at-end, some-none, bytes-drop, rebuilds}

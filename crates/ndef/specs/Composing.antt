@@ -17,7 +17,8 @@ use Rattle.ndef.specs.declared.refusal.RecordRefusal.the-variants.{SpaceShort,
 use Rattle.ndef.specs.Content.{Content}
 use Rattle.ndef.specs.Format.{allows}
 use Rattle.ndef.specs.Header.{has, sr, il}
-use Rattle.ndef.specs.Message.{none, message, laid}
+use Rattle.ndef.specs.Message.{none, message}
+use Rattle.space.specs.Space.{laid}
 use Rattle.ndef.specs.Reading.{Entry, entries, contents, fault, records}
 
 -- what a description says of the store

@@ -10,7 +10,8 @@ use Rattle.ndef.specs.declared.description.Description.{Description}
 use Rattle.ndef.specs.declared.refusal.RecordRefusal.{RecordRefusal}
 use Rattle.ndef.specs.declared.refusal.RecordRefusal.the-variants.{SpaceShort}
 use Rattle.ndef.specs.Composing.{described, firstBad, longest, Composes, Recomposes}
-use Rattle.ndef.specs.Message.{message, laid}
+use Rattle.ndef.specs.Message.{message}
+use Rattle.space.specs.Space.{laid}
 use Rattle.ndef.specs.Reading.{contents, fault, records}
 
 -- the descriptions make a message of n bytes: a shorter space is refused, and else the message goes over its front

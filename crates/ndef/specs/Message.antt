@@ -4,7 +4,7 @@ use mathlib.Core.List.{List, [], _∷_, _++_}
 use Prim.Native.Nat.{ℕ, _+_, _/_, _%_}
 use lib.Bits.{bitOr}
 use lib.Dec.{leb, ltb}
-use lib.ListN.{length, take, drop}
+use lib.ListN.{length}
 use Rattle.ndef.specs.Content.{Content}
 use Rattle.ndef.specs.Format.{number}
 use Rattle.ndef.specs.Header.{mb, me, sr, il}
@@ -62,11 +62,3 @@ messageFrom first (c ∷ cs) = encoded first (none cs) c ++ messageFrom false cs
 -- the message of a list of records
 abbrev pub message : List Content → List ℕ
 message cs = messageFrom true cs
-
--- bytes laid over the front of a space; what lies behind them stays
-abbrev pub laid : List ℕ → List ℕ → List ℕ
-laid bs space = bs ++ drop (length bs) space
-
--- bytes laid into a space at a place
-abbrev pub put : List ℕ → ℕ → List ℕ → List ℕ
-put space at bs = take at space ++ bs ++ drop (at + length bs) space

@@ -6,7 +6,8 @@ ghost use lib.ListN.{length};
 ghost use Rattle.std.specs.declared.option.Option.the-variants.{None};
 ghost use Rattle.ndef.specs.Composing.{Composes, described, firstBad, longest};
 ghost use Rattle.ndef.specs.Lengths.{ComposedLength};
-ghost use Rattle.ndef.specs.Message.{message, laid};
+ghost use Rattle.ndef.specs.Message.{message};
+ghost use Rattle.space.specs.Space.{laid};
 use crate::description::Description;
 use crate::refusal::RecordRefusal;
 

@@ -2,7 +2,7 @@ use mathlib.Core.Path.{_≡_, refl}
 use Prim.Native.Nat.{_+_, _-_}
 use lib.ListN.{length}
 use native.Mathlib.Omega.{arith}
-use Rattle.ndef.proofs.Puts.{copied}
+use Rattle.space.proofs.Puts.{copied}
 use Rattle.ndef.proofs.fields.put.Needs as need
 
 pub returns : need.returns

@@ -6,7 +6,8 @@ use lib.ListN.{length}
 use Rattle.std.specs.declared.option.Option.the-variants.{Some, None}
 use Rattle.std.specs.declared.result.Result.the-variants.{Ok, Err}
 use Rattle.ndef.specs.Fields.{Brief}
-use Rattle.ndef.specs.Message.{encoded, encodedLength, put}
+use Rattle.ndef.specs.Message.{encoded, encodedLength}
+use Rattle.space.specs.Space.{put}
 use Rattle.ndef.specs.Reader.{entryOf, Handed, Hands}
 use Rattle.ndef.specs.Reading.{content, fault, over}
 use Rattle.ndef.proofs.Rebuilt.{some-none}

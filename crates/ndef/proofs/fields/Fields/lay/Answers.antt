@@ -4,9 +4,10 @@ use Prim.Native.Nat.{ℕ, _+_, _≤_}
 use native.Mathlib.Omega.{arith}
 use lib.ListN.{length}
 use Rattle.ndef.specs.Fields.{contentOf}
-use Rattle.ndef.specs.Message.{put, payloadCount, idCount}
+use Rattle.ndef.specs.Message.{payloadCount, idCount}
+use Rattle.space.specs.Space.{put}
 use Rattle.ndef.proofs.Encoded.{encoded-length}
-use Rattle.ndef.proofs.Puts.{Laid, behind}
+use Rattle.space.proofs.Puts.{Laid, behind}
 use Rattle.ndef.proofs.fields.Fields.lay.Needs as need
 
 pub returns : need.returns

@@ -5,8 +5,9 @@ use lib.ListN.{length}
 use Prim.Native.Nat.{ℕ, _+_}
 use Rattle.std.proofs.shelf.Tests.{cond-false}
 use Rattle.ndef.specs.Fields.{contentOf}
-use Rattle.ndef.specs.Message.{idCount, put}
-use Rattle.ndef.proofs.Puts.{put-none}
+use Rattle.ndef.specs.Message.{idCount}
+use Rattle.space.specs.Space.{put}
+use Rattle.space.proofs.Puts.{put-none}
 use Rattle.ndef.proofs.fields.Fields.put_id_length.Needs as need
 
 pub returns-else-is-named : need.returns-else-is-named

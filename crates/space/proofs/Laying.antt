@@ -5,7 +5,7 @@ use Prim.Native.Nat.{ℕ, _+_, _≤_}
 use native.Mathlib.Omega.{arith}
 use lib.ListN.{length, take, drop, length-append, length-drop}
 use lib.Seq.{take-at, drop-at, drop-drop, take-add, take-all, length-take-le}
-use Rattle.ndef.specs.Message.{put, laid}
+use Rattle.space.specs.Space.{put, laid}
 
 -- of the message m, the front up to `at` lies over the space, which was s₀ and is s, and `rest` is to do
 pub record Laying (m s₀ s : List ℕ) (at : ℕ) (rest : List ℕ) : Type 0 where

@@ -8,7 +8,7 @@ use borrow.Rule.Slice.PartMut.{putMid}
 use lib.ListN.{length, take, drop, length-append, take-append-drop}
 use lib.Seq.{take-at, drop-at, drop-drop, take-length, length-take-le}
 use Rattle.std.proofs.shelf.Parts.{putMid-paste}
-use Rattle.ndef.specs.Message.{put}
+use Rattle.space.specs.Space.{put}
 
 -- what `copy_from_slice` leaves
 pub copied : (s bs ys : List ℕ) (at k : ℕ) → ys ≡ bs → length bs ≡ k → putMid at k s ys ≡ put s at bs

@@ -1,0 +1,4 @@
+pub mod BlockLength
+pub mod Calls
+pub mod Model
+pub mod Refusal
