@@ -1,10 +1,11 @@
 -- What a memory means: a block length, its bytes, and a lock for each block.
 use mathlib.Core.Path.{_≡_}
 use mathlib.Core.Bool.{Bool, true, false}
-use mathlib.Core.List.{List, _++_}
+use mathlib.Core.List.{List}
 use mathlib.Core.Logic.{_⊎_}
-use Prim.Native.Nat.{ℕ, _+_, _*_, _≤_}
+use Prim.Native.Nat.{ℕ, _*_, _≤_}
 use lib.ListN.{length, getD, set, take, drop}
+use Rattle.space.specs.Space.{put}
 
 pub record Model : Type 0 where
   pub unit : ℕ
@@ -30,7 +31,7 @@ lockAt m n = getD (m .locks) n false
 
 -- bytes put over those that stand at a place
 abbrev pub putAt : ℕ → List ℕ → List ℕ → List ℕ
-putAt at new old = take at old ++ new ++ drop (at + length new) old
+putAt at new old = put old at new
 
 -- block n replaced whole
 abbrev pub withBlock : Model → ℕ → List ℕ → Model
