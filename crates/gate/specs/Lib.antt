@@ -1,3 +1,4 @@
 pub mod Digits
 pub mod Drafts
 pub mod Rehearsals
+pub mod Tagged

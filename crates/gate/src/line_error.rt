@@ -1,4 +1,5 @@
-// Why a line of the script is not understood.
+// Why a line of the script is not understood, or what it asks for that is not there.
+use memory::MemoryRefusal;
 use std::alloc::AllocError;
 use std::alloc::Refused;
 use std::fmt;
@@ -14,6 +15,12 @@ pub enum LineError {
     BadNumber,
     NumberTooLarge,
     BadHex,
+    BadUid,
+    BadMark,
+    RepeatedMark,
+    NoTag,
+    NoBlock,
+    OutsideMemory,
     NoMemory,
 }
 
@@ -29,6 +36,12 @@ impl LineError {
             LineError::BadNumber => "a number has decimal digits and nothing else",
             LineError::NumberTooLarge => "the number is too large",
             LineError::BadHex => "bytes are pairs of hex digits, or -",
+            LineError::BadUid => "a UID has 16 hex digits",
+            LineError::BadMark => "a mark is wide, multi, lockable or special",
+            LineError::RepeatedMark => "a mark is given twice",
+            LineError::NoTag => "there is no tag with that UID",
+            LineError::NoBlock => "the tag has no such block",
+            LineError::OutsideMemory => "the bytes lie outside the tag's memory",
             LineError::NoMemory => "no memory",
         }
     }
@@ -56,5 +69,12 @@ pub impl<T: Drop> From<Refused<T>> for LineError as LineErrorFromRefused {
 pub impl From<fmt::Error> for LineError as LineErrorFromFmt {
     fn from(_e: fmt::Error) -> LineError {
         LineError::NoMemory
+    }
+}
+
+// A memory that is looked at refuses only a block that it does not have.
+pub impl From<MemoryRefusal> for LineError as LineErrorFromMemory {
+    fn from(_e: MemoryRefusal) -> LineError {
+        LineError::NoBlock
     }
 }

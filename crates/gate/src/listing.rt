@@ -34,7 +34,7 @@ impl Listing {
                 Ok(Some(record)) => listing.add(&record)?,
                 Ok(None) => break,
                 Err(refusal) => {
-                    listing.refusal = Some(Refusal(refusal));
+                    listing.refusal = Some(Refusal::OfRecords(refusal));
                     break;
                 }
             }

@@ -2,12 +2,17 @@
 mod answer;
 mod command;
 mod draft;
+mod dump;
+mod heard;
 mod hex;
 mod line_error;
 mod listing;
+mod prepared;
 mod refusal;
 mod rehearsal;
 mod script;
+mod tags;
+mod uid;
 mod walk;
 mod words;
 

@@ -2,20 +2,28 @@
 ghost use mathlib.Core.Path.{_≡_};
 ghost use Rattle.gate.specs.Drafts.{Empty};
 ghost use Rattle.gate.specs.Rehearsals.{Unchanged};
+ghost use Rattle.gate.specs.Tagged.{SameTags};
 ghost use Rattle.std.specs.Vec.{made, refused};
 use crate::answer::Answer;
 use crate::command;
 use crate::command::Command;
 use crate::draft::Draft;
+use crate::heard::Heard;
 use crate::hex::Hex;
 use crate::hex::HexDisplay;
 use crate::line_error::LineError;
 use crate::line_error::LineErrorFromAlloc;
 use crate::listing::Listing;
 use crate::refusal::Refusal;
+use crate::tags::Tags;
+use crate::uid::UidHex;
 use crate::walk::Walk;
+use memory::BlockLength;
 use ndef::Format;
 use std::alloc::Global;
+use tag::LONGEST_ANSWER;
+use tag::Marks;
+use tag::Uid;
 
 #[derive(Drop)]
 pub struct Rehearsal {
@@ -24,6 +32,7 @@ pub struct Rehearsal {
     draft: Draft,
     // the current message
     message: Vec<u8>,
+    tags: Tags,
 }
 
 // What a text record's payload begins with: UTF-8, and a language of two letters.
@@ -35,6 +44,7 @@ impl Rehearsal {
             heap,
             draft: Draft::new(heap),
             message: Vec::new(heap),
+            tags: Tags::new(heap),
         }
     }
 
@@ -66,6 +76,35 @@ impl Rehearsal {
             Command::Recompose { room } => self.recompose(room),
             Command::Records => self.list(),
             Command::Show => self.show(),
+            Command::Tag {
+                uid,
+                unit,
+                count,
+                marks,
+            } => self.add_tag(uid, unit, count, marks),
+            Command::Bytes {
+                uid,
+                address,
+                bytes,
+            } => {
+                self.tags.put_bytes(uid, address, bytes.as_slice())?;
+                Ok(Answer::BytesPut {
+                    uid: UidHex(uid),
+                    address,
+                })
+            }
+            Command::Lock { uid, block } => {
+                self.tags.lock(uid, block)?;
+                Ok(Answer::Locked {
+                    uid: UidHex(uid),
+                    block,
+                })
+            }
+            Command::Frame { frame } => self.hear(frame.as_slice()),
+            Command::Dump { uid } => {
+                let lines = self.tags.dump(uid)?;
+                Ok(Answer::Dumped { lines })
+            }
         }
     }
 
@@ -94,7 +133,7 @@ impl Rehearsal {
                 Ok(Answer::Composed { length })
             }
             Err(refusal) => Ok(Answer::Refused {
-                refusal: Refusal(refusal),
+                refusal: Refusal::OfRecords(refusal),
             }),
         }
     }
@@ -110,7 +149,7 @@ impl Rehearsal {
                 Ok(Answer::Recomposed { length })
             }
             Err(refusal) => Ok(Answer::Refused {
-                refusal: Refusal(refusal),
+                refusal: Refusal::OfRecords(refusal),
             }),
         }
     }
@@ -138,5 +177,41 @@ impl Rehearsal {
     fn show(&self) -> Result<Answer, LineError> {
         let hex = format!(self.heap, "{}", Hex(self.message.as_slice()))?;
         Ok(Answer::Message { hex })
+    }
+
+    fn add_tag(
+        &mut self,
+        uid: Uid,
+        unit: usize,
+        count: u32,
+        marks: Marks,
+    ) -> Result<Answer, LineError>
+        ensures unchanged { λ r. ⌜ refused r (λ _. Unchanged (now (self .entry)) (now (self .exit))) ⌝ }
+        ensures kept { λ r. ⌜ made r (λ a. (x : Refusal) → a ≡ Answer.Refused x → SameTags (now (self .entry) .tags) (now (self .exit) .tags)) ⌝ }
+    {
+        match BlockLength::new(unit) {
+            Ok(unit) => {
+                self.tags.add(uid, unit, count, marks)?;
+                Ok(Answer::TagAdded { uid: UidHex(uid) })
+            }
+            Err(refusal) => Ok(Answer::Refused {
+                refusal: Refusal::OfMemory(refusal),
+            }),
+        }
+    }
+
+    // Lets every tag hear a frame.
+    fn hear(&mut self, frame: &[u8]) -> Result<Answer, LineError>
+        ensures { λ r. ⌜ refused r (λ _. Unchanged (now (self .entry)) (now (self .exit))) ⌝ }
+    {
+        let mut space = vec![in self.heap; 0u8; LONGEST_ANSWER]?;
+        match self.tags.hear(frame, space.as_mut_slice()) {
+            Heard::Nothing => Ok(Answer::Silence),
+            Heard::One { length } => {
+                space.truncate(length);
+                Ok(Answer::OneAnswer { answer: space })
+            }
+            Heard::Several => Ok(Answer::SeveralAnswers),
+        }
     }
 }

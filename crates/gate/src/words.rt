@@ -109,7 +109,7 @@ pub fn number(word: &[u8]) -> Result<usize, LineError>
     Ok(total)
 }
 
-fn hex_digit(byte: u8) -> Result<u8, LineError>
+pub fn hex_digit(byte: u8) -> Result<u8, LineError>
     ensures { λ r. ⌜ made r (λ d. (d < 16) × ((byte ≡ capital d) ⊎ (byte ≡ small d))) ⌝ }
 {
     match byte {
