@@ -99,7 +99,7 @@ impl Tags {
     }
 
     // Lets each tag hear the frame; a single answer lies in the front of the space.
-    pub fn hear(&mut self, frame: &[u8], space: &mut [u8]) -> Heard
+    pub(crate) fn hear(&mut self, frame: &[u8], space: &mut [u8]) -> Heard
         requires { ⌜ longest ≤ length (now space) ⌝ }
         ensures { λ _. ⌜ vec-len (now (self .exit) .list) ≡ vec-len (now (self .entry) .list) ⌝ }
     {
