@@ -80,7 +80,7 @@ def tokens(path, text):
     """The places of a text where a name of antt may stand: all of a proof file, and of a source the lines of clauses."""
     for m in TOKEN.finditer(text):
         head = text[max(0, m.start() - 5) : m.start()]
-        if head.endswith(("goal.", "need.")) or re.search(r"(?<![\w'-])[cwlg]\.$", head):
+        if ANSWERS.search(path) and (head.endswith(("goal.", "need.")) or re.search(r"(?<![\w'-])[cwlg]\.$", head)):
             continue
         yield m
 

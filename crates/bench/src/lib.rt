@@ -1,4 +1,6 @@
 // The bench memory.
+#![tactic(auto)]
+
 mod bench;
 
 pub use bench::Bench;

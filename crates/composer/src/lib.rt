@@ -1,4 +1,6 @@
 // Messages made: the composer, and recomposing.
+#![tactic(auto)]
+
 mod composer;
 mod description;
 mod fields;

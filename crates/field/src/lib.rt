@@ -1,4 +1,6 @@
 // The air between a gate and the tags in its reach: who hears a frame, and whose answer comes back.
+#![tactic(auto)]
+
 mod answer;
 mod field;
 mod heard;

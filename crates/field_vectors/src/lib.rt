@@ -1,4 +1,6 @@
 // Fields put together in several ways, and what is heard of them.
+#![tactic(auto)]
+
 #[cfg(test)]
 mod tests {
     use bench::Bench;

@@ -1,4 +1,6 @@
 // The frames that a gate sends, and numbers of two bytes.
+#![tactic(auto)]
+
 mod frame;
 mod numbers;
 

@@ -1,4 +1,5 @@
 // Rehearses what is to be written on a tag: reads a script, and prints what each of its commands did.
+#![tactic(auto)]
 
 mod answer;
 mod command;

@@ -1,4 +1,6 @@
 // What a record's header says, and why a record is refused.
+#![tactic(auto)]
+
 mod format;
 mod header;
 mod refusal;

@@ -1,4 +1,6 @@
 // What a tag's memory is.
+#![tactic(auto)]
+
 mod block_length;
 mod memory;
 mod refusal;

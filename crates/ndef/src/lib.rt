@@ -1,4 +1,6 @@
 // NDEF messages, read: the record reader. It knows nothing of tags.
+#![tactic(auto)]
+
 mod layout;
 mod reader;
 mod record;

@@ -1,4 +1,6 @@
 // Fields piled up: two in one gate, and one that goes out of reach.
+#![tactic(auto)]
+
 mod fading;
 mod pair;
 

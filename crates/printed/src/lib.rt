@@ -1,4 +1,6 @@
 // The printed image.
+#![tactic(auto)]
+
 mod printed;
 
 pub use printed::{Image, Lent, Printed};

@@ -1,4 +1,6 @@
 // Why a call of the gate is refused, and how far it had come.
+#![tactic(auto)]
+
 mod cause;
 mod refusal;
 mod step;

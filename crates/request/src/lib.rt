@@ -1,4 +1,6 @@
 // What a reader asks of a tag, frame and command, and what is told of a tag: its UID, state, marks and errors.
+#![tactic(auto)]
+
 mod command;
 mod error_code;
 mod frame;

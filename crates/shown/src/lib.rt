@@ -1,4 +1,6 @@
 // What a tag shows: the container and the TLVs in its memory, and the message that they lead to.
+#![tactic(auto)]
+
 mod checks;
 mod container;
 mod flaw;

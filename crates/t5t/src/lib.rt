@@ -1,4 +1,6 @@
 // The gate's side: a tag is detected, and its message read.
+#![tactic(auto)]
+
 mod closed;
 mod closed_reading;
 mod container;

@@ -1,4 +1,6 @@
 // A Type 5 tag: what it answers to each frame, in each state, over any memory.
+#![tactic(auto)]
+
 mod access;
 mod body;
 mod order;

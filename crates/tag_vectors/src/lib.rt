@@ -1,4 +1,6 @@
 // Known frames, and what the tag of twelve bytes answers to them.
+#![tactic(auto)]
+
 #[cfg(test)]
 mod tests {
     use bench::Bench;
