@@ -8,14 +8,14 @@ use Rattle.bench.proofs.bench.lock_block.Goals as goal
 
 pub index-requires : goal.index-requires
 index-requires c =
-    let l = lock_there (bytes_of c.args.unit) c.args.bytes.now c.as-slice.result.now c.args.block (omega arith) in
-    let n = c.as-slice.ensures.len in
+    let l = lock_there (bytes_of c.args.unit) c.args.bytes.now c.as_slice.result.now c.args.block (omega arith) in
+    let n = c.as_slice.ensures.len in
     omega arith
 
-pub index-mut-requires : goal.index-mut-requires
-index-mut-requires c =
-    let l = lock_there (bytes_of c.args.unit) c.args.bytes.now c.as-slice.result.now c.args.block (omega arith) in
-    let n = c.as-slice.ensures.len in
+pub index_mut-requires : goal.index_mut-requires
+index_mut-requires c =
+    let l = lock_there (bytes_of c.args.unit) c.args.bytes.now c.as_slice.result.now c.args.block (omega arith) in
+    let n = c.as_slice.ensures.len in
     omega arith
 
 pub returns-then-index-ne0 : goal.returns-then-index-ne0

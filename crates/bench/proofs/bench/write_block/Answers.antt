@@ -7,7 +7,7 @@ use Rattle.bench.proofs.bench.write_block.Goals as goal
 
 pub bounds-locks-block : goal.bounds-locks-block
 bounds-locks-block c =
-    lock_there (bytes_of c.args.unit) c.as-slice.result.now c.args.locks.now c.args.block (omega arith)
+    lock_there (bytes_of c.args.unit) c.as_slice.result.now c.args.locks.now c.args.block (omega arith)
 
 pub returns-then-locks-block-ne0 : goal.returns-then-locks-block-ne0
 returns-then-locks-block-ne0 c =
@@ -17,8 +17,8 @@ returns-then-locks-block-ne0 c =
       buffer = refl;
     }
 
-pub put-in-requires : goal.put-in-requires
-put-in-requires c =
+pub put_in-requires : goal.put_in-requires
+put_in-requires c =
     let e : c.blocks-2.result ≡ count_of (bench_of (bytes_of c.args.unit) c.args.bytes.now.items c.args.locks.now) = cc in
     let w = block_there (bytes_of c.args.unit) c.args.bytes.now.items c.args.locks.now c.args.block (omega arith) in
     let at = ap (λ u. c.args.block * u) c.bytes-2.ensures in
@@ -28,7 +28,7 @@ put-in-requires c =
 pub returns : goal.returns
 returns c =
     let e : c.blocks-2.result ≡ count_of (bench_of (bytes_of c.args.unit) c.args.bytes.now.items c.args.locks.now) = cc in
-    let put = c.put-in.ensures ∙ ap (λ u. put_at (c.args.block * u) c.args.new.now c.args.bytes.now.items) c.bytes-2.ensures in
+    let put = c.put_in.ensures ∙ ap (λ u. put_at (c.args.block * u) c.args.new.now c.args.bytes.now.items) c.bytes-2.ensures in
     record {
       writes = bench_writes (bytes_of c.args.unit) c.args.bytes.now.items c.args.locks.now c.args.block (omega arith) c.if-locks-block-ne0.false _ c.args.new.now (omega arith) put;
       buffer = put;

@@ -2,8 +2,8 @@ use Rattle.std.proofs.Common.{arith}
 use Rattle.window.specs.Windows.{below_few, window_reads, never_unread}
 use Rattle.window.proofs.window.read_shown.Goals as goal
 
-pub overflow-add-first : goal.overflow-add-first
-overflow-add-first g c =
+pub overflow_add-first : goal.overflow_add-first
+overflow_add-first g c =
     let w = below_few (g.M.Memory.model c.args.below.now) (g.met.M.Memory.sound c.args.below.now) c.args.first c.args.count c.args.block (omega arith) in
     omega arith
 
