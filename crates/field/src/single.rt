@@ -15,7 +15,7 @@ fn exchange_alone<M: Memory>(
     frame: &[u8],
     space: &mut [u8],
 ) -> Result<Heard, TagRefusal>
-    ensures { Exchanged (for_good (tag_of model tag.old)) (for_good (tag_of model tag.new)) frame.now space.old space.new result }
+    ensures { Exchanged (for_good (tag_of M.model tag.old)) (for_good (tag_of M.model tag.new)) frame.now space.old space.new result }
 {
     match tag.step(frame, space)? {
         Some(length) => Ok(Heard::One(length)),

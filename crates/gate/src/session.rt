@@ -19,7 +19,7 @@ impl Session {
         space: &mut [u8],
         message: &mut [u8],
     ) -> Result<Received, NotRead>
-        ensures { ReadsWith self.now (air_of tags field.old space.old) (air_of tags field.new space.new) message.old message.new result }
+        ensures { ReadsWith self.now (air_of F.tags field.old space.old) (air_of F.tags field.new space.new) message.old message.new result }
     {
         match self {
             Session::Detected(detected) => detected.read(field, space, message),

@@ -20,7 +20,7 @@ fn exchange_fading<F: Field>(
     frame: &[u8],
     space: &mut [u8],
 ) -> Result<Heard, TagRefusal>
-    ensures { Exchanged (map (capped_at left.old) (tags below.old)) (map (capped_at left.new) (tags below.new)) frame.now space.old space.new result }
+    ensures { Exchanged (map (capped_at left.old) (F.tags below.old)) (map (capped_at left.new) (F.tags below.new)) frame.now space.old space.new result }
 {
     if space.len() < LONGEST_ANSWER {
         return Err(TagRefusal::AnswerSpaceShort);

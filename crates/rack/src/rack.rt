@@ -26,7 +26,7 @@ fn exchange_slot<M: Memory>(
     frame: &[u8],
     space: &mut [u8],
 ) -> Result<Heard, TagRefusal>
-    ensures { Exchanged (placed_of model slot.old ∷ []) (placed_of model slot.new ∷ []) frame.now space.old space.new result }
+    ensures { Exchanged (placed_of M.model slot.old ∷ []) (placed_of M.model slot.new ∷ []) frame.now space.old space.new result }
 {
     if space.len() < LONGEST_ANSWER {
         return Err(TagRefusal::AnswerSpaceShort);
@@ -53,7 +53,7 @@ fn exchange_all<M: Memory>(
     frame: &[u8],
     space: &mut [u8],
 ) -> Result<Heard, TagRefusal>
-    ensures { Exchanged (map (placed_of model) slots.old) (map (placed_of model) slots.new) frame.now space.old space.new result }
+    ensures { Exchanged (map (placed_of M.model) slots.old) (map (placed_of M.model) slots.new) frame.now space.old space.new result }
 {
     if space.len() < LONGEST_ANSWER {
         return Err(TagRefusal::AnswerSpaceShort);
@@ -71,7 +71,7 @@ fn exchange_slots<M: Memory>(
     frame: &[u8],
     space: &mut [u8],
 ) -> Result<Heard, TagRefusal>
-    ensures { Exchanged (map (placed_of model) slots.old.items) (map (placed_of model) slots.new.items) frame.now space.old space.new result }
+    ensures { Exchanged (map (placed_of M.model) slots.old.items) (map (placed_of M.model) slots.new.items) frame.now space.old space.new result }
 {
     exchange_all(slots, frame, space)
 }

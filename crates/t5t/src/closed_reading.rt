@@ -32,8 +32,8 @@ impl Closed {
         space: &mut [u8],
         message: &mut [u8],
     ) -> Result<Received, NotRead>
-        ensures reads { Reads self.now.uid.0 (bytes_of self.now.unit) self.now.container.end self.now.at (air_of tags field.old space.old) (air_of tags field.new space.new) message.old message.new result }
-        ensures laws { ReadingLaws self.now.uid.0 (bytes_of self.now.unit) (record { container = self.now.container; at = self.now.at }) (air_of tags field.old space.old) (air_of tags field.new space.new) message.old message.new result }
+        ensures reads { Reads self.now.uid.0 (bytes_of self.now.unit) self.now.container.end self.now.at (air_of F.tags field.old space.old) (air_of F.tags field.new space.new) message.old message.new result }
+        ensures laws { ReadingLaws self.now.uid.0 (bytes_of self.now.unit) (record { container = self.now.container; at = self.now.at }) (air_of F.tags field.old space.old) (air_of F.tags field.new space.new) message.old message.new result }
     {
         read_with(self.target(), field, space, message)
     }

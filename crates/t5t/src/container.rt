@@ -29,7 +29,7 @@ impl Link {
         requires first { block.number ≡ 0 }
         requires rest { rest.now ≡ drop 4 (take (bytes_of self.old.unit) block.bytes) }
         requires few { self.old.exchanges ≤ 1 }
-        ensures asked { Asked Step.Container long_mlen self.old self.new (air_of tags field.old space.old) (air_of tags field.new space.new) result }
+        ensures asked { Asked Step.Container long_mlen self.old self.new (air_of F.tags field.old space.old) (air_of F.tags field.new space.new) result }
         ensures few { self.new.exchanges ≤ self.old.exchanges + 2 }
     {
         if let [_, _, high, low, ..] = rest {
@@ -65,7 +65,7 @@ impl Link {
         requires first { block.number ≡ 0 }
         requires rest { rest.now ≡ drop 4 (take (bytes_of self.old.unit) block.bytes) }
         requires few { self.old.exchanges ≤ 1 }
-        ensures asked { Asked Step.Container (sized (bytes_of self.old.unit) header) self.old self.new (air_of tags field.old space.old) (air_of tags field.new space.new) result }
+        ensures asked { Asked Step.Container (sized (bytes_of self.old.unit) header) self.old self.new (air_of F.tags field.old space.old) (air_of F.tags field.new space.new) result }
         ensures few { self.new.exchanges ≤ self.old.exchanges + 2 }
         ensures within { IfOk result (λ c. (c.end ≤ limit c.header (bytes_of self.old.unit)) × (c.end ≤ 524288)) }
     {
@@ -87,7 +87,7 @@ impl Link {
         requires kept { self.old.kept ≡ Some block }
         requires first { block.number ≡ 0 }
         requires few { self.old.exchanges ≤ 1 }
-        ensures asked { Asked Step.Container (container (bytes_of self.old.unit)) self.old self.new (air_of tags field.old space.old) (air_of tags field.new space.new) result }
+        ensures asked { Asked Step.Container (container (bytes_of self.old.unit)) self.old self.new (air_of F.tags field.old space.old) (air_of F.tags field.new space.new) result }
         ensures few { self.new.exchanges ≤ self.old.exchanges + 2 }
         ensures within { IfOk result (λ c. (c.end ≤ limit c.header (bytes_of self.old.unit)) × (c.end ≤ 524288)) }
     {

@@ -42,7 +42,7 @@ impl Link {
         requires known { value.at + value.long ≤ 65536 * bytes_of self.old.unit }
         requires fits { value.long ≤ length message.old }
         requires few { self.old.exchanges ≤ 8 }
-        ensures { Copied value self.old self.new (air_of tags field.old space.old) (air_of tags field.new space.new) message.old message.new result }
+        ensures { Copied value self.old self.new (air_of F.tags field.old space.old) (air_of F.tags field.new space.new) message.old message.new result }
     {
         let unit = self.unit.bytes();
         let first = value.at as usize;

@@ -29,7 +29,7 @@ pub struct NotFound {
 
 // Finds the message of a tag, as the procedure says.
 fn find<F: Field>(session: Sighted, field: &mut F, space: &mut [u8]) -> Result<Found, NotFound>
-    ensures { Detects session.uid.0 (air_of tags field.old space.old) (air_of tags field.new space.new) result }
+    ensures { Detects session.uid.0 (air_of F.tags field.old space.old) (air_of F.tags field.new space.new) result }
 {
     if space.len() < LONGEST_ANSWER {
         return Err(NotFound {
@@ -76,8 +76,8 @@ fn find_by_laws<F: Field>(
     field: &mut F,
     space: &mut [u8],
 ) -> Result<Found, NotFound>
-    ensures detects { Detects session.uid.0 (air_of tags field.old space.old) (air_of tags field.new space.new) result }
-    ensures laws { DetectionLaws session.uid.0 (air_of tags field.old space.old) (air_of tags field.new space.new) result }
+    ensures detects { Detects session.uid.0 (air_of F.tags field.old space.old) (air_of F.tags field.new space.new) result }
+    ensures laws { DetectionLaws session.uid.0 (air_of F.tags field.old space.old) (air_of F.tags field.new space.new) result }
 {
     find(session, field, space)
 }
@@ -91,8 +91,8 @@ impl Sighted {
 
     // Finds the tag's message.
     pub fn detect<F: Field>(self, field: &mut F, space: &mut [u8]) -> Result<Found, NotFound>
-        ensures detects { Detects self.uid.0 (air_of tags field.old space.old) (air_of tags field.new space.new) result }
-        ensures laws { DetectionLaws self.uid.0 (air_of tags field.old space.old) (air_of tags field.new space.new) result }
+        ensures detects { Detects self.uid.0 (air_of F.tags field.old space.old) (air_of F.tags field.new space.new) result }
+        ensures laws { DetectionLaws self.uid.0 (air_of F.tags field.old space.old) (air_of F.tags field.new space.new) result }
     {
         find_by_laws(self, field, space)
     }

@@ -15,7 +15,7 @@ use tag::Uid;
 pub(crate) fn send_read<F: Field>(field: &mut F, space: &mut [u8], uid: Uid, block: u32) -> Heard
     requires room { longest ≤ length space.old }
     requires known { block < 65536 }
-    ensures { Exchange (tags field.old) (tags field.new) (read_frame uid.0 block) space.old space.new result }
+    ensures { Exchange (F.tags field.old) (F.tags field.new) (read_frame uid.0 block) space.old space.new result }
 {
     let frame = Frame::read(uid, block as u16);
     match field.exchange(frame.bytes(), space) {

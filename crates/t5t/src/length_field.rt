@@ -31,7 +31,7 @@ impl Link {
         requires room { longest ≤ length space.old }
         requires known { end ≤ 65536 * bytes_of self.old.unit }
         requires few { self.old.exchanges ≤ 4294967296 }
-        ensures asked { Asked Step.Walk (before end at) self.old self.new (air_of tags field.old space.old) (air_of tags field.new space.new) result }
+        ensures asked { Asked Step.Walk (before end at) self.old self.new (air_of F.tags field.old space.old) (air_of F.tags field.new space.new) result }
         ensures few { self.new.exchanges ≤ self.old.exchanges + 1 }
     {
         if at >= end {
@@ -52,7 +52,7 @@ impl Link {
         requires known { end ≤ 65536 * bytes_of self.old.unit }
         requires low { at ≤ 4194304 }
         requires few { self.old.exchanges ≤ 4294967295 }
-        ensures asked { Asked Step.Walk (two_bytes end at) self.old self.new (air_of tags field.old space.old) (air_of tags field.new space.new) result }
+        ensures asked { Asked Step.Walk (two_bytes end at) self.old self.new (air_of F.tags field.old space.old) (air_of F.tags field.new space.new) result }
         ensures few { self.new.exchanges ≤ self.old.exchanges + 2 }
     {
         let high = self.byte_before(field, space, end, at)?;
@@ -85,7 +85,7 @@ impl Link {
         requires known { end ≤ 65536 * bytes_of self.old.unit }
         requires low { at ≤ 4194302 }
         requires few { self.old.exchanges ≤ 4294967295 }
-        ensures asked { Asked Step.Walk (long_length end at) self.old self.new (air_of tags field.old space.old) (air_of tags field.new space.new) result }
+        ensures asked { Asked Step.Walk (long_length end at) self.old self.new (air_of F.tags field.old space.old) (air_of F.tags field.new space.new) result }
         ensures few { self.new.exchanges ≤ self.old.exchanges + 2 }
         ensures within { IfOk result (λ v. (v.at + v.long ≤ end) × (at + 2 ≤ v.at)) }
     {
@@ -108,7 +108,7 @@ impl Link {
         requires known { end ≤ 65536 * bytes_of self.old.unit }
         requires low { at ≤ 4194300 }
         requires few { self.old.exchanges ≤ 4294967294 }
-        ensures asked { Asked Step.Walk (length_field end at) self.old self.new (air_of tags field.old space.old) (air_of tags field.new space.new) result }
+        ensures asked { Asked Step.Walk (length_field end at) self.old self.new (air_of F.tags field.old space.old) (air_of F.tags field.new space.new) result }
         ensures few { self.new.exchanges ≤ self.old.exchanges + 3 }
         ensures within { IfOk result (λ v. (v.at + v.long ≤ end) × (at + 2 ≤ v.at)) }
     {

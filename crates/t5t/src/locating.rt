@@ -36,7 +36,7 @@ impl Link {
     fn first_block<F: Field>(&mut self, field: &mut F, space: &mut [u8]) -> Result<Kept, Stop>
         requires room { longest ≤ length space.old }
         requires few { self.old.exchanges ≡ 0 }
-        ensures read { FirstRead self.old self.new (air_of tags field.old space.old) (air_of tags field.new space.new) result }
+        ensures read { FirstRead self.old self.new (air_of F.tags field.old space.old) (air_of F.tags field.new space.new) result }
         ensures first { IfOk result (λ k. k.number ≡ 0) }
         ensures few { self.new.exchanges ≡ 1 }
     {
@@ -66,7 +66,7 @@ impl Link {
     ) -> Result<Place, Stop>
         requires room { longest ≤ length space.old }
         requires few { self.old.exchanges ≡ 0 }
-        ensures located { Performs (detection self.old.uid.0) (air_of tags field.old space.old) (air_of tags field.new space.new) (with_unit result self.new.unit) 0 self.new.exchanges }
+        ensures located { Performs (detection self.old.uid.0) (air_of F.tags field.old space.old) (air_of F.tags field.new space.new) (with_unit result self.new.unit) 0 self.new.exchanges }
         ensures within { IfOk result (λ p. (p.container.begin ≤ p.at) × (p.at + 2 ≤ p.container.end) × (p.container.end ≤ limit p.container.header (bytes_of self.new.unit))) }
         ensures uid { self.new.uid ≡ self.old.uid }
     {

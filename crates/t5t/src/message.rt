@@ -42,7 +42,7 @@ impl Link {
         requires known { end ≤ 65536 * bytes_of self.old.unit }
         requires low { at ≤ 4194300 }
         requires few { self.old.exchanges ≡ 0 }
-        ensures { MessageRead end at self.old self.new (air_of tags field.old space.old) (air_of tags field.new space.new) message.old message.new result }
+        ensures { MessageRead end at self.old self.new (air_of F.tags field.old space.old) (air_of F.tags field.new space.new) message.old message.new result }
     {
         let value = match self.length_field(field, space, end, at) {
             Ok(value) => value,

@@ -36,7 +36,7 @@ fn read_at<F: Field>(
 ) -> Result<Received, NotRead>
     requires known { target.place.container.end ≤ 65536 * bytes_of target.unit }
     requires holds { target.place.at + 2 ≤ target.place.container.end }
-    ensures { Reads target.uid.0 (bytes_of target.unit) target.place.container.end target.place.at (air_of tags field.old space.old) (air_of tags field.new space.new) message.old message.new result }
+    ensures { Reads target.uid.0 (bytes_of target.unit) target.place.container.end target.place.at (air_of F.tags field.old space.old) (air_of F.tags field.new space.new) message.old message.new result }
 {
     if space.len() < LONGEST_ANSWER {
         return Err(NotRead {
@@ -82,8 +82,8 @@ pub(crate) fn read_with<F: Field>(
 ) -> Result<Received, NotRead>
     requires known { target.place.container.end ≤ 65536 * bytes_of target.unit }
     requires holds { target.place.at + 2 ≤ target.place.container.end }
-    ensures reads { Reads target.uid.0 (bytes_of target.unit) target.place.container.end target.place.at (air_of tags field.old space.old) (air_of tags field.new space.new) message.old message.new result }
-    ensures laws { ReadingLaws target.uid.0 (bytes_of target.unit) target.place (air_of tags field.old space.old) (air_of tags field.new space.new) message.old message.new result }
+    ensures reads { Reads target.uid.0 (bytes_of target.unit) target.place.container.end target.place.at (air_of F.tags field.old space.old) (air_of F.tags field.new space.new) message.old message.new result }
+    ensures laws { ReadingLaws target.uid.0 (bytes_of target.unit) target.place (air_of F.tags field.old space.old) (air_of F.tags field.new space.new) message.old message.new result }
 {
     read_at(target, field, space, message)
 }
@@ -109,8 +109,8 @@ impl Detected {
         space: &mut [u8],
         message: &mut [u8],
     ) -> Result<Received, NotRead>
-        ensures reads { Reads self.now.uid.0 (bytes_of self.now.unit) self.now.container.end self.now.at (air_of tags field.old space.old) (air_of tags field.new space.new) message.old message.new result }
-        ensures laws { ReadingLaws self.now.uid.0 (bytes_of self.now.unit) (record { container = self.now.container; at = self.now.at }) (air_of tags field.old space.old) (air_of tags field.new space.new) message.old message.new result }
+        ensures reads { Reads self.now.uid.0 (bytes_of self.now.unit) self.now.container.end self.now.at (air_of F.tags field.old space.old) (air_of F.tags field.new space.new) message.old message.new result }
+        ensures laws { ReadingLaws self.now.uid.0 (bytes_of self.now.unit) (record { container = self.now.container; at = self.now.at }) (air_of F.tags field.old space.old) (air_of F.tags field.new space.new) message.old message.new result }
     {
         read_with(self.target(), field, space, message)
     }

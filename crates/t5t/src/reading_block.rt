@@ -26,7 +26,7 @@ impl Link {
         requires room { longest ≤ length space.old }
         requires known { number < 65536 }
         requires few { self.old.exchanges ≤ 4294967296 }
-        ensures read { BlockRead step number self.old self.new (air_of tags field.old space.old) (air_of tags field.new space.new) result }
+        ensures read { BlockRead step number self.old self.new (air_of F.tags field.old space.old) (air_of F.tags field.new space.new) result }
         ensures few { self.new.exchanges ≤ self.old.exchanges + 1 }
     {
         self.exchanges += 1;
@@ -66,7 +66,7 @@ impl Link {
         requires room { longest ≤ length space.old }
         requires known { number < 65536 }
         requires few { self.old.exchanges ≤ 4294967296 }
-        ensures had { Had step number self.old self.new (air_of tags field.old space.old) (air_of tags field.new space.new) result }
+        ensures had { Had step number self.old self.new (air_of F.tags field.old space.old) (air_of F.tags field.new space.new) result }
         ensures few { self.new.exchanges ≤ self.old.exchanges + 1 }
     {
         match self.kept_at(number) {
@@ -86,7 +86,7 @@ impl Link {
         requires room { longest ≤ length space.old }
         requires known { at < 65536 * bytes_of self.old.unit }
         requires few { self.old.exchanges ≤ 4294967296 }
-        ensures asked { Asked step (just_byte at) self.old self.new (air_of tags field.old space.old) (air_of tags field.new space.new) result }
+        ensures asked { Asked step (just_byte at) self.old self.new (air_of F.tags field.old space.old) (air_of F.tags field.new space.new) result }
         ensures few { self.new.exchanges ≤ self.old.exchanges + 1 }
     {
         let unit = self.unit.bytes() as u32;

@@ -43,7 +43,7 @@ impl Link {
         requires known { container.end ≤ 65536 * bytes_of self.old.unit }
         requires low { container.end ≤ 4194296 }
         requires few { self.old.exchanges ≤ 8 }
-        ensures asked { Asked Step.Walk (walk container) self.old self.new (air_of tags field.old space.old) (air_of tags field.new space.new) result }
+        ensures asked { Asked Step.Walk (walk container) self.old self.new (air_of F.tags field.old space.old) (air_of F.tags field.new space.new) result }
         ensures within { IfOk result (λ p. (p.container ≡ container) × (container.begin ≤ p.at) × (p.at + 2 ≤ container.end)) }
     {
         let end = container.end;

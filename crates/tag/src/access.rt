@@ -21,7 +21,7 @@ pub struct View<'a, M: Memory> {
 impl<M: Memory> Tag<M> {
     // A tag that is READY.
     pub fn new(memory: M, uid: Uid, marks: Marks) -> Tag<M>
-        ensures { tag_of model result ≡ record { memory = model memory; uid = uid.0; state = Ready; marks = marks } }
+        ensures { tag_of M.model result ≡ record { memory = M.model memory; uid = uid.0; state = Ready; marks = marks } }
     {
         Tag {
             memory,
@@ -33,10 +33,10 @@ impl<M: Memory> Tag<M> {
 
     // The tag as it stands.
     pub fn view(&self) -> View<'_, M>
-        ensures memory { model result.memory.now ≡ (tag_of model self.now).memory }
-        ensures uid { result.uid.0 ≡ (tag_of model self.now).uid }
-        ensures state { result.state ≡ (tag_of model self.now).state }
-        ensures marks { result.marks ≡ (tag_of model self.now).marks }
+        ensures memory { M.model result.memory.now ≡ (tag_of M.model self.now).memory }
+        ensures uid { result.uid.0 ≡ (tag_of M.model self.now).uid }
+        ensures state { result.state ≡ (tag_of M.model self.now).state }
+        ensures marks { result.marks ≡ (tag_of M.model self.now).marks }
     {
         View {
             memory: &self.memory,
@@ -49,7 +49,7 @@ impl<M: Memory> Tag<M> {
     // Puts another memory into the tag, and gives the one back that it had. Its state stays.
     pub fn replace_memory(&mut self, memory: M) -> M
         ensures given { result ≡ self.old.memory }
-        ensures after { tag_of model self.new ≡ with_memory (tag_of model self.old) (model memory) }
+        ensures after { tag_of M.model self.new ≡ with_memory (tag_of M.model self.old) (M.model memory) }
     {
         mem::replace(&mut self.memory, memory)
     }

@@ -10,8 +10,8 @@ use request::ErrorCode;
 
 // 01h where the block is locked, 00h where it is not.
 fn lock_byte<M: Memory>(memory: &M, block: u32) -> u8
-    requires { block < count_of (model memory.now) }
-    ensures { result ≡ lock_byte (lock_at (model memory.now) block) }
+    requires { block < count_of (M.model memory.now) }
+    ensures { result ≡ lock_byte (lock_at (M.model memory.now) block) }
 {
     match memory.is_locked(block) {
         Ok(true) => 1,
@@ -21,9 +21,9 @@ fn lock_byte<M: Memory>(memory: &M, block: u32) -> u8
 
 // Puts the block's lock byte into the space at `at`, and answers where it ends.
 fn put_lock<M: Memory>(memory: &M, block: u32, space: &mut [u8], at: usize) -> usize
-    requires present { block < count_of (model memory.now) }
+    requires present { block < count_of (M.model memory.now) }
     requires room { at + 1 ≤ length space.old }
-    ensures left { space.new ≡ put space.old at (lock_byte (lock_at (model memory.now) block) ∷ []) }
+    ensures left { space.new ≡ put space.old at (lock_byte (lock_at (M.model memory.now) block) ∷ []) }
     ensures end { result ≡ at + 1 }
 {
     space[at] = lock_byte(memory, block);
@@ -32,10 +32,10 @@ fn put_lock<M: Memory>(memory: &M, block: u32, space: &mut [u8], at: usize) -> u
 
 // Puts the block's bytes into the space at `at`, and answers where they end.
 fn put_bytes<M: Memory>(memory: &M, block: u32, space: &mut [u8], at: usize) -> usize
-    requires present { block < count_of (model memory.now) }
-    requires room { at + (model memory.now).unit ≤ length space.old }
-    ensures left { space.new ≡ put space.old at (block_at (model memory.now) block) }
-    ensures end { result ≡ at + (model memory.now).unit }
+    requires present { block < count_of (M.model memory.now) }
+    requires room { at + (M.model memory.now).unit ≤ length space.old }
+    ensures left { space.new ≡ put space.old at (block_at (M.model memory.now) block) }
+    ensures end { result ≡ at + (M.model memory.now).unit }
 {
     let end = at + memory.block_length().bytes();
     let _ = memory.read(block, &mut space[at..end]);
@@ -50,10 +50,10 @@ fn put_block<M: Memory>(
     space: &mut [u8],
     at: usize,
 ) -> usize
-    requires present { block < count_of (model memory.now) }
-    requires room { at + length (block_from (model memory.now) optioned block) ≤ length space.old }
-    ensures left { space.new ≡ put space.old at (block_from (model memory.now) optioned block) }
-    ensures end { result ≡ at + length (block_from (model memory.now) optioned block) }
+    requires present { block < count_of (M.model memory.now) }
+    requires room { at + length (block_from (M.model memory.now) optioned block) ≤ length space.old }
+    ensures left { space.new ≡ put space.old at (block_from (M.model memory.now) optioned block) }
+    ensures end { result ≡ at + length (block_from (M.model memory.now) optioned block) }
 {
     if optioned {
         let start = put_lock(memory, block, space, at);
@@ -74,7 +74,7 @@ pub(crate) fn read_blocks<M: Memory>(
     requires start { first < 65536 }
     requires few { count ≤ 32 }
     requires room { longest ≤ length space.old }
-    ensures { ReadsInto (model memory.now) optioned first count space.old space.new result }
+    ensures { ReadsInto (M.model memory.now) optioned first count space.old space.new result }
 {
     if first + count > memory.block_count() {
         return Err(ErrorCode::Absent);

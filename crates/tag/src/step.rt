@@ -51,9 +51,9 @@ impl<M: Memory> Tag<M> {
         bytes: &[u8],
         space: &mut [u8],
     ) -> Result<usize, ErrorCode>
-        requires whole { length bytes.now ≡ (model self.old.memory).unit }
+        requires whole { length bytes.now ≡ (M.model self.old.memory).unit }
         requires room { longest ≤ length space.old }
-        ensures { Works (tag_of model self.old) (tag_of model self.new) (changes (tag_of model self.old) optioned block Locked (with_block (model self.old.memory) block bytes.now)) space.old space.new result }
+        ensures { Works (tag_of M.model self.old) (tag_of M.model self.new) (changes (tag_of M.model self.old) optioned block Locked (with_block (M.model self.old.memory) block bytes.now)) space.old space.new result }
     {
         if optioned != self.marks.special {
             return Err(ErrorCode::OptionNotSupported);
@@ -72,7 +72,7 @@ impl<M: Memory> Tag<M> {
         space: &mut [u8],
     ) -> Result<usize, ErrorCode>
         requires room { longest ≤ length space.old }
-        ensures { Works (tag_of model self.old) (tag_of model self.new) (changes (tag_of model self.old) optioned block LockedAlready (with_lock (model self.old.memory) block)) space.old space.new result }
+        ensures { Works (tag_of M.model self.old) (tag_of M.model self.new) (changes (tag_of M.model self.old) optioned block LockedAlready (with_lock (M.model self.old.memory) block)) space.old space.new result }
     {
         if optioned != self.marks.special {
             return Err(ErrorCode::OptionNotSupported);
@@ -92,9 +92,9 @@ impl<M: Memory> Tag<M> {
         body: &[u8],
         space: &mut [u8],
     ) -> Result<usize, ErrorCode>
-        requires long { length body.now ≡ body_length command (model self.old.memory).unit }
+        requires long { length body.now ≡ body_length command (M.model self.old.memory).unit }
         requires room { longest ≤ length space.old }
-        ensures { Works (tag_of model self.old) (tag_of model self.new) (obeys (tag_of model self.old) optioned command command.work body.now) space.old space.new result }
+        ensures { Works (tag_of M.model self.old) (tag_of M.model self.new) (obeys (tag_of M.model self.old) optioned command command.work body.now) space.old space.new result }
     {
         let block = block_number(command, body);
         match command.work {
@@ -114,7 +114,7 @@ impl<M: Memory> Tag<M> {
     // Carries a command on blocks out, or says why not.
     fn work(&mut self, order: BlockOrder<'_>, space: &mut [u8]) -> Result<usize, ErrorCode>
         requires { longest ≤ length space.old }
-        ensures { Works (tag_of model self.old) (tag_of model self.new) (blocks (tag_of model self.old) order.entry.optioned order.entry.body.now order.entry.command) space.old space.new result }
+        ensures { Works (tag_of M.model self.old) (tag_of M.model self.new) (blocks (tag_of M.model self.old) order.entry.optioned order.entry.body.now order.entry.command) space.old space.new result }
     {
         let Some(command) = order.command else {
             return Err(ErrorCode::NotSupported);
@@ -132,7 +132,7 @@ impl<M: Memory> Tag<M> {
     // The answer to a command on blocks, laid into the space.
     fn obey(&mut self, order: BlockOrder<'_>, space: &mut [u8]) -> Option<usize>
         requires { longest ≤ length space.old }
-        ensures { Takes (tag_of model self.old) (tag_of model self.new) (does_blocks (tag_of model self.old) order.entry) space.old space.new result }
+        ensures { Takes (tag_of M.model self.old) (tag_of M.model self.new) (does_blocks (tag_of M.model self.old) order.entry) space.old space.new result }
     {
         match self.work(order, space) {
             Ok(length) => Some(length),
@@ -143,7 +143,7 @@ impl<M: Memory> Tag<M> {
     // The tag's turn: what it makes of a frame, in its state.
     fn take_turn(&mut self, frame: &[u8], space: &mut [u8]) -> Option<usize>
         requires { longest ≤ length space.old }
-        ensures { Takes (tag_of model self.old) (tag_of model self.new) (turn (tag_of model self.old) frame.now) space.old space.new result }
+        ensures { Takes (tag_of M.model self.old) (tag_of M.model self.new) (turn (tag_of M.model self.old) frame.now) space.old space.new result }
     {
         match (self.state, Order::read(frame, self.uid)) {
             (_, Order::Nothing) => None,
@@ -169,7 +169,7 @@ impl<M: Memory> Tag<M> {
 
     // What the tag does with a frame: its answer's length, or none where it is silent.
     pub fn step(&mut self, frame: &[u8], space: &mut [u8]) -> Result<Option<usize>, TagRefusal>
-        ensures { Steps (tag_of model self.old) (tag_of model self.new) frame.now space.old space.new result }
+        ensures { Steps (tag_of M.model self.old) (tag_of M.model self.new) frame.now space.old space.new result }
     {
         if space.len() < LONGEST_ANSWER {
             return Err(TagRefusal::AnswerSpaceShort);

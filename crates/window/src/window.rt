@@ -42,7 +42,7 @@ impl<M: Memory> Window<M> {
 
 // How many blocks are shown.
 fn blocks_shown<M: Memory>(below: &M, first: u32, count: u32) -> u32
-    ensures { result ≡ count_of (window_of (model below.now) first count) }
+    ensures { result ≡ count_of (window_of (M.model below.now) first count) }
 {
     count.min(below.block_count().saturating_sub(first))
 }
@@ -54,7 +54,7 @@ fn tell_shown<M: Memory>(
     count: u32,
     block: u32,
 ) -> Result<bool, MemoryRefusal>
-    ensures { TellsLock (window_of (model below.now) first count) block result }
+    ensures { TellsLock (window_of (M.model below.now) first count) block result }
 {
     if block >= blocks_shown(below, first, count) {
         return Err(MemoryRefusal::Absent { block });
@@ -73,7 +73,7 @@ fn read_shown<M: Memory>(
     block: u32,
     space: &mut [u8],
 ) -> Result<(), MemoryRefusal>
-    ensures { Reads (window_of (model below.now) first count) block space.old space.new result }
+    ensures { Reads (window_of (M.model below.now) first count) block space.old space.new result }
 {
     if space.len() != below.block_length().bytes() {
         return Err(MemoryRefusal::WrongSpace { block });
@@ -95,8 +95,8 @@ fn write_shown<M: Memory>(
     block: u32,
     bytes: &[u8],
 ) -> Result<(), MemoryRefusal>
-    ensures writes { Writes (window_of (model below.old) first count) (window_of (model below.new) first count) block bytes.now result }
-    ensures under { model below.new ≡ after result (with_block (model below.old) (first + block) bytes.now) (model below.old) }
+    ensures writes { Writes (window_of (M.model below.old) first count) (window_of (M.model below.new) first count) block bytes.now result }
+    ensures under { M.model below.new ≡ after result (with_block (M.model below.old) (first + block) bytes.now) (M.model below.old) }
 {
     if bytes.len() != below.block_length().bytes() {
         return Err(MemoryRefusal::WrongSpace { block });
@@ -117,8 +117,8 @@ fn lock_shown<M: Memory>(
     count: u32,
     block: u32,
 ) -> Result<(), MemoryRefusal>
-    ensures locks { Locks (window_of (model below.old) first count) (window_of (model below.new) first count) block result }
-    ensures under { model below.new ≡ after result (with_lock (model below.old) (first + block)) (model below.old) }
+    ensures locks { Locks (window_of (M.model below.old) first count) (window_of (M.model below.new) first count) block result }
+    ensures under { M.model below.new ≡ after result (with_lock (M.model below.old) (first + block)) (M.model below.old) }
 {
     if block >= blocks_shown(below, first, count) {
         return Err(MemoryRefusal::Absent { block });

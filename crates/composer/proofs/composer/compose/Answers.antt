@@ -2,4 +2,4 @@ use Rattle.std.proofs.Common.{arith}
 use Rattle.composer.proofs.composer.compose.Goals as goal
 
 pub returns : goal.returns
-returns c = c.in-ok-total.ensures.enough _ _ (omega arith) c.lay-all.ensures
+returns c = c.in_ok-total.ensures.enough _ _ (omega arith) c.lay_all.ensures

@@ -7,17 +7,17 @@ use Rattle.composer.proofs.composer.composed_length.Goals as goal
 pub loop-index-init : goal.loop-index-init
 loop-index-init c = counted_none _ _
 
-pub returns-in-default : goal.returns-in-default
-returns-in-default c = refused_length _ _ _ (counted-bad _ _ _ _ c.loop-index.invariant _ _ c.loop-index-test.true c.in-default.ensures)
+pub returns-in_default : goal.returns-in_default
+returns-in_default c = refused_length _ _ _ (counted-bad _ _ _ _ c.loop-index.invariant _ _ c.loop-index-test.true c.in_default.ensures)
 
-pub encoded-length-requires : goal.encoded-length-requires
-encoded-length-requires c = c.in-Some.ensures.brief
+pub encoded_length-requires : goal.encoded_length-requires
+encoded_length-requires c = c.in-Some.ensures.brief
 
 pub loop-index-preserved : goal.loop-index-preserved
 loop-index-preserved c =
-    let same = c.encoded-length.ensures ∙ ap encoded_length c.in-Some.ensures.content in
+    let same = c.encoded_length.ensures ∙ ap encoded_length c.in-Some.ensures.content in
     counted_more _ _ _ _ c.loop-index.invariant _ _ c.loop-index-test.true c.in-Some.ensures.sound
-    (c.saturating-add-total.ensures ∙ ap (λ n. min (c.loop-index.total + n) 18446744073709551615) same)
+    (c.saturating_add-total.ensures ∙ ap (λ n. min (c.loop-index.total + n) 18446744073709551615) same)
 
 pub returns-then-total-eq0 : goal.returns-then-total-eq0
 returns-then-total-eq0 c =

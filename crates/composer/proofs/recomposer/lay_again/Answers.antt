@@ -12,8 +12,8 @@ use Rattle.composer.proofs.recomposer.lay_again.Goals.{In-Some}
 within : (c : In-Some) → c.loop-record.reader.place ≤ length c.args.message.now
 within c = subst (λ l. c.loop-record.reader.place ≤ length l) c.loop-record.invariant.of_it c.loop-record.reader.within
 
-handed : (c : In-Some) → Handed c.args.message.now c.loop-record.reader.place c.next-record.new.self.place c.in-Some.record
-handed c = of_message _ _ c.loop-record.invariant.of_it (ap Ok c.in-Some.is) c.in-ok-record.ensures.hands
+handed : (c : In-Some) → Handed c.args.message.now c.loop-record.reader.place c.next_record.new.self.place c.in-Some.record
+handed c = of_message _ _ c.loop-record.invariant.of_it (ap Ok c.in-Some.is) c.in_ok-record.ensures.hands
 
 pub loop-record-init : goal.loop-record-init
 loop-record-init c =
@@ -22,7 +22,7 @@ loop-record-init c =
 pub lay-at-requires : goal.lay-at-requires
 lay-at-requires c =
     let s = (goal.at.lay-at-requires c).In-Some in
-    let same = c.of-record.ensures in
+    let same = c.of_record.ensures in
     let room = next-room c.loop-record.invariant _ c.in-Some.record (within s) (handed s) in
     let size = ap encoded_length same in
     let long = ap (λ x. length x.payload) same in (
@@ -40,21 +40,21 @@ loop-record-smaller c =
 pub loop-record-preserved : goal.loop-record-preserved
 loop-record-preserved c =
     let s = (goal.at.loop-record-preserved c).In-Some in
-    let same = c.of-record.ensures in
-    let held = c.in-ok-record.ensures.message ∙ c.loop-record.invariant.of_it in
-    let last = c.is-over.ensures ∙ ap (λ l. over l c.next-record.new.self.place) held in
+    let same = c.of_record.ensures in
+    let held = c.in_ok-record.ensures.message ∙ c.loop-record.invariant.of_it in
+    let last = c.is_over.ensures ∙ ap (λ l. over l c.next_record.new.self.place) held in
     recomposing_more c.loop-record.invariant _ c.in-Some.record (within s) (handed s) _ _ _ held
     (c.lay-at.ensures.after ∙ (λ i. put c.loop-record.space c.loop-record.at (encoded (eqb c.in-Some.record.place 0) (last i) (same i))))
     (c.lay-at.ensures.value ∙ ap (λ x. c.loop-record.at + encoded_length x) same)
 
 -- no header of the message is bad, so the second reading is not refused
-pub returns-in-err-record : goal.returns-in-err-record
-returns-in-err-record c =
-    let h : Hands c.args.message.now c.loop-record.reader.place c.next-record.new.self.place (Err c.in-err-record.field-0.0) =
-    of_message c.loop-record.reader.place c.next-record.new.self.place {a = Err c.in-err-record.field-0.0} c.loop-record.invariant.of_it refl c.in-err-record.ensures.hands in
+pub returns-in_err-record : goal.returns-in_err-record
+returns-in_err-record c =
+    let h : Hands c.args.message.now c.loop-record.reader.place c.next_record.new.self.place (Err c.in_err-record.field-0.0) =
+    of_message c.loop-record.reader.place c.next_record.new.self.place {a = Err c.in_err-record.field-0.0} c.loop-record.invariant.of_it refl c.in_err-record.ensures.hands in
     absurd (some_none (sym (ap fault h.0) ∙ c.loop-record.invariant.good))
 
 pub returns : goal.returns
 returns c =
-    let over = (of_message c.loop-record.reader.place c.next-record.new.self.place c.loop-record.invariant.of_it (ap Ok c.in-default.is) c.in-ok-record.ensures.hands).0 in
+    let over = (of_message c.loop-record.reader.place c.next_record.new.self.place c.loop-record.invariant.of_it (ap Ok c.in_default.is) c.in_ok-record.ensures.hands).0 in
     record { answer = refl; after = recomposed-all _ _ _ _ _ _ over c.loop-record.invariant }

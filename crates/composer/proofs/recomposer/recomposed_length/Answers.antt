@@ -11,23 +11,23 @@ use Rattle.composer.proofs.recomposer.recomposed_length.Goals.{In-Some, In-defau
 within : (c : In-Some) → c.loop-record.reader.place ≤ length c.args.message.now
 within c = subst (λ l. c.loop-record.reader.place ≤ length l) c.loop-record.invariant.of_it c.loop-record.reader.within
 
-handed : (c : In-Some) → Handed c.args.message.now c.loop-record.reader.place c.next-record.new.self.place c.in-Some.record
-handed c = of_message _ _ c.loop-record.invariant.of_it (ap Ok c.in-Some.is) c.in-ok-record.ensures.hands
+handed : (c : In-Some) → Handed c.args.message.now c.loop-record.reader.place c.next_record.new.self.place c.in-Some.record
+handed c = of_message _ _ c.loop-record.invariant.of_it (ap Ok c.in-Some.is) c.in_ok-record.ensures.hands
 
 pub loop-record-init : goal.loop-record-init
 loop-record-init c = recounted_none _ _ _ c.new-reader.ensures.message c.new-reader.ensures.place
 
-pub returns-in-err-record : goal.returns-in-err-record
-returns-in-err-record c =
-    let p = err_from_is_err_and c.from-residual.result c.from-residual.ensures.1 in
-    let h : Hands c.args.message.now c.loop-record.reader.place c.next-record.new.self.place (Err c.in-err-record.field-0.0) =
-    of_message c.loop-record.reader.place c.next-record.new.self.place {a = Err c.in-err-record.field-0.0} c.loop-record.invariant.of_it refl c.in-err-record.ensures.hands in
+pub returns-in_err-record : goal.returns-in_err-record
+returns-in_err-record c =
+    let p = err_from_is_err_and c.from_residual.result c.from_residual.ensures.1 in
+    let h : Hands c.args.message.now c.loop-record.reader.place c.next_record.new.self.place (Err c.in_err-record.field-0.0) =
+    of_message c.loop-record.reader.place c.next_record.new.self.place {a = Err c.in_err-record.field-0.0} c.loop-record.invariant.of_it refl c.in_err-record.ensures.hands in
     rw (p.1, p.2) (refused_length _ (λ k. (c.type-inv.message k).fits) _ (ap Err h.1 ∙ recounted_bad c.loop-record.invariant _ h.0))
 
-pub encoded-length-requires : goal.encoded-length-requires
-encoded-length-requires c =
-    let s = (goal.at.encoded-length-requires c).In-Some in
-    subst Brief (sym c.of-record.ensures) (handed_brief _ _ _ c.in-Some.record (within s) (handed s) (λ k. (c.type-inv.message k).fits))
+pub encoded_length-requires : goal.encoded_length-requires
+encoded_length-requires c =
+    let s = (goal.at.encoded_length-requires c).In-Some in
+    subst Brief (sym c.of_record.ensures) (handed_brief _ _ _ c.in-Some.record (within s) (handed s) (λ k. (c.type-inv.message k).fits))
 
 pub loop-record-smaller : goal.loop-record-smaller
 loop-record-smaller c =
@@ -38,12 +38,12 @@ loop-record-smaller c =
 pub loop-record-preserved : goal.loop-record-preserved
 loop-record-preserved c =
     let s = (goal.at.loop-record-preserved c).In-Some in
-    let size = c.encoded-length.ensures ∙ ap encoded_length c.of-record.ensures in
-    recounted_more c.loop-record.invariant _ c.in-Some.record _ _ (c.in-ok-record.ensures.message ∙ c.loop-record.invariant.of_it) (handed s).next
-    (c.saturating-add-total.ensures ∙ ap (λ n. min (c.loop-record.total + n) 18446744073709551615) size)
+    let size = c.encoded_length.ensures ∙ ap encoded_length c.of_record.ensures in
+    recounted_more c.loop-record.invariant _ c.in-Some.record _ _ (c.in_ok-record.ensures.message ∙ c.loop-record.invariant.of_it) (handed s).next
+    (c.saturating_add-total.ensures ∙ ap (λ n. min (c.loop-record.total + n) 18446744073709551615) size)
 
 over : (c : In-default) → left c.args.message.now c.loop-record.reader.place ≡ ended
-over c = (of_message _ c.next-record.new.self.place c.loop-record.invariant.of_it (ap Ok c.in-default.is) c.in-ok-record.ensures.hands).0
+over c = (of_message _ c.next_record.new.self.place c.loop-record.invariant.of_it (ap Ok c.in_default.is) c.in_ok-record.ensures.hands).0
 
 pub returns-then-total-gt-LONGEST : goal.returns-then-total-gt-LONGEST
 returns-then-total-gt-LONGEST c =

@@ -5,21 +5,21 @@ use Rattle.space.proofs.Puts.{Laid, behind}
 use Rattle.tag.proofs.Blocks.{block_long, with_lock_lem, without_lock}
 use Rattle.tag.proofs.reading.put_block.Goals as goal
 
-pub put-lock-start-requires : goal.put-lock-start-requires
-put-lock-start-requires g c =
+pub put_lock-start-requires : goal.put_lock-start-requires
+put_lock-start-requires g c =
     let m = g.M.Memory.model c.args.memory.now in
     let size = ap length (with_lock_lem m c.args.optioned c.args.block c.if-optioned.true) in
     record { present = c.requires.present; room = omega (arith, c.requires.room) }
 
-pub put-bytes-requires : goal.put-bytes-requires
-put-bytes-requires g c =
+pub put_bytes-requires : goal.put_bytes-requires
+put_bytes-requires g c =
     let m = g.M.Memory.model c.args.memory.now in
     let long = block_long m c.args.block (g.met.M.Memory.sound c.args.memory.now) c.requires.present in
     let size = ap length (with_lock_lem m c.args.optioned c.args.block c.if-optioned.true) in
-    record { present = c.requires.present; room = omega (arith, c.requires.room, c.put-lock-start.auto.space, c.put-lock-start.ensures.end) }
+    record { present = c.requires.present; room = omega (arith, c.requires.room, c.put_lock-start.auto.space, c.put_lock-start.ensures.end) }
 
-pub put-bytes-requires-else-optioned : goal.put-bytes-requires-else-optioned
-put-bytes-requires-else-optioned g c =
+pub put_bytes-requires-else-optioned : goal.put_bytes-requires-else-optioned
+put_bytes-requires-else-optioned g c =
     let m = g.M.Memory.model c.args.memory.now in
     let long = block_long m c.args.block (g.met.M.Memory.sound c.args.memory.now) c.requires.present in
     let size = ap length (without_lock m c.args.optioned c.args.block c.if-optioned.false) in
@@ -30,8 +30,8 @@ returns-then-optioned g c =
     let m = g.M.Memory.model c.args.memory.now in
     let long = block_long m c.args.block (g.met.M.Memory.sound c.args.memory.now) c.requires.present in
     let room : c.args.at ≤ length c.args.space.now = omega (arith, c.requires.room) in
-    let start : Laid c.args.space.now c.args.at (_ ∷ []) _ _ = record { after = c.put-lock-start.ensures.left; value = c.put-lock-start.ensures.end } in
-    let both = behind (block_at m c.args.block) _ _ room start c.put-bytes.ensures.left (c.put-bytes.ensures.end ∙ ap (λ n. c.put-lock-start.result + n) (sym long)) in
+    let start : Laid c.args.space.now c.args.at (_ ∷ []) _ _ = record { after = c.put_lock-start.ensures.left; value = c.put_lock-start.ensures.end } in
+    let both = behind (block_at m c.args.block) _ _ room start c.put_bytes.ensures.left (c.put_bytes.ensures.end ∙ ap (λ n. c.put_lock-start.result + n) (sym long)) in
     let same = sym (with_lock_lem m c.args.optioned c.args.block c.if-optioned.true) in
     record { left = both.after ∙ ap (put c.args.space.now c.args.at) same; end = both.value ∙ ap (λ l. c.args.at + length l) same }
 
@@ -41,6 +41,6 @@ returns-else-optioned g c =
     let long = block_long m c.args.block (g.met.M.Memory.sound c.args.memory.now) c.requires.present in
     let same = sym (without_lock m c.args.optioned c.args.block c.if-optioned.false) in
     record {
-      left = c.put-bytes-else-optioned.ensures.left ∙ ap (put c.args.space.now c.args.at) same;
-      end = c.put-bytes-else-optioned.ensures.end ∙ ap (λ n. c.args.at + n) (sym long ∙ ap length same);
+      left = c.put_bytes-else-optioned.ensures.left ∙ ap (put c.args.space.now c.args.at) same;
+      end = c.put_bytes-else-optioned.ensures.end ∙ ap (λ n. c.args.at + n) (sym long ∙ ap length same);
     }

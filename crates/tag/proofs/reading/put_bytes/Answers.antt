@@ -8,7 +8,7 @@ pub returns : goal.returns
 returns g c =
     let m = g.M.Memory.model c.args.memory.now in
     let sound = g.met.M.Memory.sound c.args.memory.now in
-    let unit : c.bytes.result ≡ m.unit = c.bytes.ensures ∙ c.block-length.ensures in
+    let unit : c.bytes.result ≡ m.unit = c.bytes.ensures ∙ c.block_length.ensures in
     let size : c.args.at + c.bytes.result - c.args.at ≡ m.unit = omega arith in
     let long = length-drop c.args.at c.args.space.now in
     let part : length (take (c.args.at + c.bytes.result - c.args.at) (drop c.args.at c.args.space.now)) ≡ m.unit = length-take-le _ _ (omega (arith, c.requires.room)) ∙ size in

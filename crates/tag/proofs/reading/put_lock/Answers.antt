@@ -6,6 +6,6 @@ use Rattle.tag.proofs.reading.put_lock.Goals as goal
 pub returns : goal.returns
 returns g c =
     record {
-      left = put_one c.args.space.now c.args.at _ (omega (arith, c.requires.room)) ∙ ap (λ v. put c.args.space.now c.args.at (v ∷ [])) c.lock-byte.ensures;
+      left = put_one c.args.space.now c.args.at _ (omega (arith, c.requires.room)) ∙ ap (λ v. put c.args.space.now c.args.at (v ∷ [])) c.lock_byte.ensures;
       end = refl;
     }

@@ -4,4 +4,4 @@ use Rattle.composer.proofs.description.Description.fields.Goals as goal
 
 pub returns : goal.returns
 returns c =
-    describes _ _ _ (sym c.if-not-is-tellable.ensures) refl c.in-ok-kind.ensures c.in-ok-id.ensures c.in-ok-payload.ensures
+    describes _ _ _ (sym c.if-not-is_tellable.ensures) refl c.in_ok-kind.ensures c.in_ok-id.ensures c.in_ok-payload.ensures
