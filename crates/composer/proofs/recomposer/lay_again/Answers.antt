@@ -25,11 +25,12 @@ lay-at-requires c =
     let same = c.of_record.ensures in
     let room = next-room c.loop-record.invariant _ c.in-Some.record (within s) (handed s) in
     let size = ap encoded_length same in
-    let long = ap (λ x. length x.payload) same in (
-      subst Brief (sym same) (handed_brief _ _ _ c.in-Some.record (within s) (handed s) (λ k. (c.type-inv.message k).fits)),
-      omega (arith, c.requires.few, c.loop-record.auto.space),
-      omega (arith, c.requires.room, c.loop-record.auto.space),
-    )
+    let long = ap (λ x. length x.payload) same in
+    record {
+      brief = subst Brief (sym same) (handed_brief _ _ _ c.in-Some.record (within s) (handed s) (λ k. (c.type_inv.message k).fits));
+      payload_len_bound = omega (arith, c.requires.few, c.loop-record.auto.space);
+      self_in_bounds = omega (arith, c.requires.room, c.loop-record.auto.space);
+    }
 
 pub loop-record-smaller : goal.loop-record-smaller
 loop-record-smaller c =

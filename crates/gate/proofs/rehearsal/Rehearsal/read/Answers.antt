@@ -9,11 +9,11 @@ use Rattle.gate.proofs.rehearsal.Rehearsal.read.Goals as goal
 pub returns-in-Ok : goal.returns-in-Ok
 returns-in-Ok c =
     let self = c.args.self.now in
-    let made = c.in-ok-answer.ensures in
+    let made = c.in_ok-answer.ensures in
     let session = c.index.result.now in
     let received = c.in-Ok.received in
     let left = c.read.new.space in
-    let message = c.in-ok-answer.field-0.message in
+    let message = c.in_ok-answer.field-0.message in
     let last = c.read.new.message in
     let blank : c.as-mut-slice.result.now ≡ replicate longest 0 = c.as-mut-slice.ensures.value ∙ made.0 in
     let room : c.as-mut-slice-2.result.now ≡ replicate c.args.room 0 = c.as-mut-slice-2.ensures.value ∙ made.1 in
@@ -29,7 +29,7 @@ returns-in-Ok c =
 pub returns : goal.returns
 returns c =
     let self = c.args.self.now in
-    let made = c.in-ok-answer.ensures in
+    let made = c.in_ok-answer.ensures in
     let session = c.index.result.now in
     let not-read = c.in-Err.not-read in
     let left = c.read.new.space in

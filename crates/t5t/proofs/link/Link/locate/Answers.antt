@@ -10,20 +10,20 @@ pub returns-in-err-block : goal.returns-in-err-block
 returns-in-err-block g c =
     let p = err_from_is_err_and c.from-residual.result c.from-residual.ensures.1 in
     let l = c.first-block.new.self in
-    let done = unsighted c.args.self.now l _ _ c.in-err-block.field-0.0 c.from-residual.result (p.1 ∙ ap Err p.2) c.in-err-block.ensures.read in
+    let done = unsighted c.args.self.now l _ _ c.in_err-block.field-0.0 c.from-residual.result (p.1 ∙ ap Err p.2) c.in_err-block.ensures.read in
     record {
       located = from_none c.requires.few done;
       within = none_made (λ x. (x.container.begin ≤ x.at) × (x.at + 2 ≤ x.container.end) × (x.container.end ≤ limit x.container.header (bytes_of l.unit))) c.from-residual.result p.1;
-      uid = c.in-err-block.ensures.read.uid;
+      uid = c.in_err-block.ensures.read.uid;
     }
 
 pub returns-in-err-container : goal.returns-in-err-container
 returns-in-err-container g c =
     let p = err_from_is_err_and c.from-residual-in-err-container.result c.from-residual-in-err-container.ensures.1 in
     let l = c.container.new.self in
-    let was = c.in-ok-block.ensures.read in
-    let asked = c.in-err-container.ensures.asked in
-    let done = uncontained c.args.self.now c.first-block.new.self _ _ c.in-ok-block.block was l _ c.in-err-container.field-0.0 c.from-residual-in-err-container.result (p.1 ∙ ap Err p.2) asked in
+    let was = c.in_ok-block.ensures.read in
+    let asked = c.in_err-container.ensures.asked in
+    let done = uncontained c.args.self.now c.first-block.new.self _ _ c.in_ok-block.block was l _ c.in_err-container.field-0.0 c.from-residual-in-err-container.result (p.1 ∙ ap Err p.2) asked in
     record {
       located = from_none c.requires.few done;
       within = none_made (λ x. (x.container.begin ≤ x.at) × (x.at + 2 ≤ x.container.end) × (x.container.end ≤ limit x.container.header (bytes_of l.unit))) c.from-residual-in-err-container.result p.1;
@@ -33,13 +33,13 @@ returns-in-err-container g c =
 pub returns : goal.returns
 returns g c =
     let l = c.walk.new.self in
-    let was = c.in-ok-block.ensures.read in
-    let asked = c.in-ok-container.ensures.asked in
+    let was = c.in_ok-block.ensures.read in
+    let asked = c.in_ok-container.ensures.asked in
     let walk = c.walk.ensures.asked in
-    let container = c.in-ok-container.container in
+    let container = c.in_ok-container.container in
     let same = sym (walk.unit ∙ asked.unit) in
-    let end = subst (λ u. container.end ≤ limit container.header (bytes_of u)) same c.in-ok-container.ensures.within.0 in
-    let done = walked c.args.self.now c.first-block.new.self _ _ c.in-ok-block.block was c.container.new.self _ container asked l _ c.walk.result walk in
+    let end = subst (λ u. container.end ≤ limit container.header (bytes_of u)) same c.in_ok-container.ensures.within.0 in
+    let done = walked c.args.self.now c.first-block.new.self _ _ c.in_ok-block.block was c.container.new.self _ container asked l _ c.walk.result walk in
     record {
       located = from_none c.requires.few done;
       within = made_weaker c.walk.result (λ x w. (subst (λ z. z.begin ≤ x.at) (sym w.0) w.1, subst (λ z. x.at + 2 ≤ z.end) (sym w.0) w.2, subst (λ z. z.end ≤ limit z.header (bytes_of l.unit)) (sym w.0) end)) c.walk.ensures.within;

@@ -9,24 +9,24 @@ use Rattle.t5t.proofs.link.Link.long_mlen.Goals as goal
 pub returns-in-err-high : goal.returns-in-err-high
 returns-in-err-high g c =
     let p = err_from_is_err_and c.from-residual.result c.from-residual.ensures.1 in
-    let few = c.in-err-high.ensures.few in
-    record { asked = and_stops mlen_low c.from-residual.result (p.1 ∙ ap Err p.2) c.in-err-high.ensures.asked; few = omega arith }
+    let few = c.in_err-high.ensures.few in
+    record { asked = and_stops mlen_low c.from-residual.result (p.1 ∙ ap Err p.2) c.in_err-high.ensures.asked; few = omega arith }
 
 pub returns-in-err-low : goal.returns-in-err-low
 returns-in-err-low g c =
     let p = err_from_is_err_and c.from-residual-in-err-low.result c.from-residual-in-err-low.ensures.1 in
-    let few = c.in-ok-high.ensures.few in
-    let few2 = c.in-err-low.ensures.few in
+    let few = c.in_ok-high.ensures.few in
+    let few2 = c.in_err-low.ensures.few in
     record {
-      asked = and_goes mlen_low c.in-ok-high.ensures.asked (and_stops (two_as c.in-ok-high.high) c.from-residual-in-err-low.result (p.1 ∙ ap Err p.2) c.in-err-low.ensures.asked);
+      asked = and_goes mlen_low c.in_ok-high.ensures.asked (and_stops (two_as c.in_ok-high.high) c.from-residual-in-err-low.result (p.1 ∙ ap Err p.2) c.in_err-low.ensures.asked);
       few = omega arith;
     }
 
 pub returns : goal.returns
 returns g c =
-    let few = c.in-ok-high.ensures.few in
-    let few2 = c.in-ok-low.ensures.few in
+    let few = c.in_ok-high.ensures.few in
+    let few2 = c.in_ok-low.ensures.few in
     record {
-      asked = and_goes mlen_low c.in-ok-high.ensures.asked (and_goes (two_as c.in-ok-high.high) c.in-ok-low.ensures.asked (asked_value Container c.byte-2.new.self _ c.word-2.ensures));
+      asked = and_goes mlen_low c.in_ok-high.ensures.asked (and_goes (two_as c.in_ok-high.high) c.in_ok-low.ensures.asked (asked_value Container c.byte-2.new.self _ c.word-2.ensures));
       few = omega arith;
     }

@@ -15,8 +15,8 @@ returns-in-err-mlen g c =
     let h = c.args.header in
     let unit = bytes_of c.args.self.now.unit in
     record {
-      asked = asked_true (eqb h.mlen 0) (done (bounded h unit false h.mlen)) (eq-eqb h.mlen 0 c.if-header-ne0.false) (and_stops (long_form unit h) c.from-residual.result (p.1 ∙ ap Err p.2) c.in-err-mlen.ensures.asked);
-      few = c.in-err-mlen.ensures.few;
+      asked = asked_true (eqb h.mlen 0) (done (bounded h unit false h.mlen)) (eq-eqb h.mlen 0 c.if-header-ne0.false) (and_stops (long_form unit h) c.from-residual.result (p.1 ∙ ap Err p.2) c.in_err-mlen.ensures.asked);
+      few = c.in_err-mlen.ensures.few;
       within = none_made (λ x. (x.end ≤ limit x.header unit) × (x.end ≤ 524288)) c.from-residual.result p.1;
     }
 
@@ -25,10 +25,10 @@ returns g c =
     let h = c.args.header in
     let unit = bytes_of c.args.self.now.unit in
     let l = c.long-mlen.new.self in
-    let got = c.in-ok-mlen.ensures.asked in
-    let same = ap (λ u. bounded h (bytes_of u) true c.in-ok-mlen.mlen) got.unit in
+    let got = c.in_ok-mlen.ensures.asked in
+    let same = ap (λ u. bounded h (bytes_of u) true c.in_ok-mlen.mlen) got.unit in
     record {
       asked = asked_true (eqb h.mlen 0) (done (bounded h unit false h.mlen)) (eq-eqb h.mlen 0 c.if-header-ne0.false) (and_goes (long_form unit h) got (asked_now Container l _ _ c.bounded-2.result (c.bounded-2.ensures.bounded ∙ ap (stopped Container l.kept) same)));
-      few = c.in-ok-mlen.ensures.few;
+      few = c.in_ok-mlen.ensures.few;
       within = subst (λ u. IfOk c.bounded-2.result (λ x. (x.end ≤ limit x.header (bytes_of u)) × (x.end ≤ 524288))) got.unit c.bounded-2.ensures.within;
     }
