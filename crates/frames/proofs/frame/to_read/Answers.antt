@@ -15,12 +15,12 @@ eight l rest =
 pub returns-then-block-le255 : goal.returns-then-block-le255
 returns-then-block-le255 c =
     let n = c.args.block in
-    ap (λ l. 0x22 ∷ 0x20 ∷ eight l (n ∷ [])) c.to-le-bytes.ensures ∙ sym (read_narrow c.args.uid.0 n c.if-block-le255.true)
+    ap (λ l. 0x22 ∷ 0x20 ∷ eight l (n ∷ [])) c.to_le_bytes.ensures ∙ sym (read_narrow c.args.uid.0 n c.if-block-le255.true)
 
 pub returns : goal.returns
 returns c =
     let n = c.args.block in
-    let w = c.to-le-bytes.ensures in
-    let v = c.low-first.ensures in
+    let w = c.to_le_bytes.ensures in
+    let v = c.low_first.ensures in
     let high : n / 256 % 256 ≡ n / 256 = let known = c.ranges.block.fits in omega arith in
     (λ i. 0x22 ∷ 0x30 ∷ eight (w i) (get_or (v i) 0 0 ∷ get_or (v i) 1 0 ∷ [])) ∙ ap (λ h. 0x22 ∷ 0x30 ∷ uid_bytes c.args.uid.0 ++ (n % 256 ∷ h ∷ [])) high ∙ sym (read_wide c.args.uid.0 n c.if-block-le255.false)

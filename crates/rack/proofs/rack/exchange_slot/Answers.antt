@@ -12,10 +12,10 @@ returns-in-None g c =
     let took = c.in_ok-length.ensures in
     (took.0, slot_answered _ _ _ _ _ c.fallen-slot.ensures _ _ _ _ (sym c.if-answers.ensures) (ap heard_by (sym c.in-None.is)) took.1)
 
-pub returns-in-ok-step : goal.returns-in-ok-step
-returns-in-ok-step g c =
-    (c.if-space-lt-LONGEST-ANSWER.false, slot_lost _ _ _ _ _ c.fallen-slot.ensures _ _ _ _ (sym c.if-answers.ensures) (sym c.if-reaches.ensures) c.in_ok-step.ensures.1)
+pub returns-in_ok-step : goal.returns-in_ok-step
+returns-in_ok-step g c =
+    (c.if-space-lt-LONGEST_ANSWER.false, slot_lost _ _ _ _ _ c.fallen-slot.ensures _ _ _ _ (sym c.if-answers.ensures) (sym c.if-reaches.ensures) c.in_ok-step.ensures.1)
 
 pub returns-else-reaches : goal.returns-else-reaches
 returns-else-reaches g c =
-    (c.if-space-lt-LONGEST-ANSWER.false, slot_out _ _ _ _ _ c.fallen-slot.ensures (sym c.if-answers.ensures) (sym c.if-reaches.ensures))
+    (c.if-space-lt-LONGEST_ANSWER.false, slot_out _ _ _ _ _ c.fallen-slot.ensures (sym c.if-answers.ensures) (sym c.if-reaches.ensures))

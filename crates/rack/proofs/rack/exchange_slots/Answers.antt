@@ -6,9 +6,9 @@ use Rattle.rack.proofs.rack.exchange_slots.Goals as goal
 pub returns : goal.returns
 returns g c =
     let placed = placed_of g.M.Memory.model in
-    let last = c.exchange-all.new.slots in
+    let last = c.exchange_all.new.slots in
     let old = c.args.slots.now in
-    let long : length last ≡ old.len = c.exchange-all.auto.slots ∙ c.deref-mut.ensures.len in
+    let long : length last ≡ old.len = c.exchange_all.auto.slots ∙ c.deref_mut.ensures.len in
     let same = sym (take_at last (drop (length last) old.items) old.len long) in
-    subst (λ l. Exchanged (map placed (vec_items old)) (map placed l) c.args.frame.now c.args.space.now c.exchange-all.new.space c.exchange-all.result) same
-    (subst (λ l. Exchanged (map placed l) (map placed last) c.args.frame.now c.args.space.now c.exchange-all.new.space c.exchange-all.result) c.deref-mut.ensures.value c.exchange-all.ensures)
+    subst (λ l. Exchanged (map placed (vec_items old)) (map placed l) c.args.frame.now c.args.space.now c.exchange_all.new.space c.exchange_all.result) same
+    (subst (λ l. Exchanged (map placed l) (map placed last) c.args.frame.now c.args.space.now c.exchange_all.new.space c.exchange_all.result) c.deref_mut.ensures.value c.exchange_all.ensures)
