@@ -9,12 +9,12 @@ returns c =
     let at = c.args.at in
     let n = c.args.count in
     let from = c.args.from in
-    let last = c.copy-from-slice.new.self in
+    let last = c.copy_from_slice.new.self in
     let e : from + n - from ≡ n = omega arith in
     let m : at + n - at ≡ n = omega arith in
     let room : at + n ≤ length message = c.requires.room in
-    let is : last ≡ take n (drop from bytes) = c.copy-from-slice.ensures.after ∙ ap (λ k. take k (drop from bytes)) e in
-    let long : length last ≡ at + n - at = c.copy-from-slice.ensures.len ∙ length-take-le (at + n - at) (drop at message) (let l = length-drop at message in omega arith) in
+    let is : last ≡ take n (drop from bytes) = c.copy_from_slice.ensures.after ∙ ap (λ k. take k (drop from bytes)) e in
+    let long : length last ≡ at + n - at = c.copy_from_slice.ensures.len ∙ length-take-le (at + n - at) (drop at message) (let l = length-drop at message in omega arith) in
     record {
       put = copied message (take n (drop from bytes)) last at (at + n - at) is (ap length (sym is) ∙ long);
       long = ap length (sym is) ∙ long ∙ m;

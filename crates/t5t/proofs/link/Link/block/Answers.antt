@@ -5,6 +5,6 @@ use Rattle.t5t.proofs.link.Link.block.Goals as goal
 pub returns-in-None : goal.returns-in-None
 returns-in-None g c =
     record {
-      had = had_read (sym c.kept-at.ensures ∙ c.in-None.is) c.read-block.ensures.read;
-      few = c.read-block.ensures.few;
+      had = had_read (sym c.kept_at.ensures ∙ c.in-None.is) c.read_block.ensures.read;
+      few = c.read_block.ensures.few;
     }

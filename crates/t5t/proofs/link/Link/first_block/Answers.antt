@@ -8,34 +8,34 @@ use Rattle.t5t.proofs.Replies.{in_space, performs-one, unit-told}
 use Rattle.t5t.proofs.link.Link.first_block.Goals as goal
 
 pub receive-requires : goal.receive-requires
-receive-requires g c = in_space c.send-read-heard.ensures
+receive-requires g c = in_space c.send_read-heard.ensures
 
 pub returns-in-Ok : goal.returns-in-Ok
 returns-in-Ok g c =
-    let h = c.send-read-heard.result in
-    let s = c.send-read-heard.new.space in
-    let told : c.unit-of-unit.result ≡ unit_of (reply_by h s) = c.unit-of-unit.ensures ∙ unit-told h s (in_space c.send-read-heard.ensures) in
+    let h = c.send_read-heard.result in
+    let s = c.send_read-heard.new.space in
+    let told : c.unit_of-unit.result ≡ unit_of (reply_by h s) = c.unit_of-unit.ensures ∙ unit-told h s (in_space c.send_read-heard.ensures) in
     let size : c.bytes.result ≡ bytes_of (unit_of (reply_by h s)) = c.bytes.ensures ∙ ap bytes_of told in
     let got : received Step.Container 0 (replied (bytes_of (unit_of (reply_by h s))) (reply_by h s)) ≡ Ok c.new-kept.result = ap (λ n. received Step.Container 0 (replied n (reply_by h s))) (sym size) ∙ ap (received Step.Container 0) c.in-Ok.ensures ∙ ap Ok (sym c.new-kept.ensures) in
-    let is : with_unit (Ok c.new-kept.result) c.unit-of-unit.result ≡ first_of (reply_by h s) = λ i. with_unit (sym got i) (told i) in
+    let is : with_unit (Ok c.new-kept.result) c.unit_of-unit.result ≡ first_of (reply_by h s) = λ i. with_unit (sym got i) (told i) in
     let zero = c.requires.few in
     record {
-      read = record { performs = performs-one c.send-read-heard.ensures first_of (with_unit (Ok c.new-kept.result) c.unit-of-unit.result) _ _ is refl; kept = refl; uid = refl };
+      read = record { performs = performs-one c.send_read-heard.ensures first_of (with_unit (Ok c.new-kept.result) c.unit_of-unit.result) _ _ is refl; kept = refl; uid = refl };
       first = ap (λ k. k.number) c.new-kept.ensures;
       few = omega arith;
     }
 
 pub returns-in-Err : goal.returns-in-Err
 returns-in-Err g c =
-    let h = c.send-read-heard.result in
-    let s = c.send-read-heard.new.space in
-    let told : c.unit-of-unit.result ≡ unit_of (reply_by h s) = c.unit-of-unit.ensures ∙ unit-told h s (in_space c.send-read-heard.ensures) in
+    let h = c.send_read-heard.result in
+    let s = c.send_read-heard.new.space in
+    let told : c.unit_of-unit.result ≡ unit_of (reply_by h s) = c.unit_of-unit.ensures ∙ unit-told h s (in_space c.send_read-heard.ensures) in
     let size : c.bytes.result ≡ bytes_of (unit_of (reply_by h s)) = c.bytes.ensures ∙ ap bytes_of told in
     let got = ap (λ n. received Step.Container 0 (replied n (reply_by h s))) (sym size) ∙ ap (received Step.Container 0) c.in-Err.ensures in
     let is : Err (record { cause = c.in-Err.cause; step = Step.Container; block = 0 }) ≡ first_of (reply_by h s) = sym (ap (λ x. with_unit x (unit_of (reply_by h s))) got) in
     let zero = c.requires.few in
     record {
-      read = record { performs = performs-one c.send-read-heard.ensures first_of (Err (record { cause = c.in-Err.cause; step = Step.Container; block = 0 })) _ _ is refl; kept = refl; uid = refl };
+      read = record { performs = performs-one c.send_read-heard.ensures first_of (Err (record { cause = c.in-Err.cause; step = Step.Container; block = 0 })) _ _ is refl; kept = refl; uid = refl };
       first = tt;
       few = omega arith;
     }

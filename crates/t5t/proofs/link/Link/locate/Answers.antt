@@ -6,27 +6,27 @@ use Rattle.t5t.proofs.Askings.{none_made, made_weaker}
 use Rattle.t5t.proofs.Locates.{unsighted, uncontained, walked, from_none}
 use Rattle.t5t.proofs.link.Link.locate.Goals as goal
 
-pub returns-in-err-block : goal.returns-in-err-block
-returns-in-err-block g c =
-    let p = err_from_is_err_and c.from-residual.result c.from-residual.ensures.1 in
-    let l = c.first-block.new.self in
-    let done = unsighted c.args.self.now l _ _ c.in_err-block.field-0.0 c.from-residual.result (p.1 ∙ ap Err p.2) c.in_err-block.ensures.read in
+pub returns-in_err-block : goal.returns-in_err-block
+returns-in_err-block g c =
+    let p = err_from_is_err_and c.from_residual.result c.from_residual.ensures.1 in
+    let l = c.first_block.new.self in
+    let done = unsighted c.args.self.now l _ _ c.in_err-block.field-0.0 c.from_residual.result (p.1 ∙ ap Err p.2) c.in_err-block.ensures.read in
     record {
       located = from_none c.requires.few done;
-      within = none_made (λ x. (x.container.begin ≤ x.at) × (x.at + 2 ≤ x.container.end) × (x.container.end ≤ limit x.container.header (bytes_of l.unit))) c.from-residual.result p.1;
+      within = none_made (λ x. (x.container.begin ≤ x.at) × (x.at + 2 ≤ x.container.end) × (x.container.end ≤ limit x.container.header (bytes_of l.unit))) c.from_residual.result p.1;
       uid = c.in_err-block.ensures.read.uid;
     }
 
-pub returns-in-err-container : goal.returns-in-err-container
-returns-in-err-container g c =
-    let p = err_from_is_err_and c.from-residual-in-err-container.result c.from-residual-in-err-container.ensures.1 in
+pub returns-in_err-container : goal.returns-in_err-container
+returns-in_err-container g c =
+    let p = err_from_is_err_and c.from_residual-in_err-container.result c.from_residual-in_err-container.ensures.1 in
     let l = c.container.new.self in
     let was = c.in_ok-block.ensures.read in
     let asked = c.in_err-container.ensures.asked in
-    let done = uncontained c.args.self.now c.first-block.new.self _ _ c.in_ok-block.block was l _ c.in_err-container.field-0.0 c.from-residual-in-err-container.result (p.1 ∙ ap Err p.2) asked in
+    let done = uncontained c.args.self.now c.first_block.new.self _ _ c.in_ok-block.block was l _ c.in_err-container.field-0.0 c.from_residual-in_err-container.result (p.1 ∙ ap Err p.2) asked in
     record {
       located = from_none c.requires.few done;
-      within = none_made (λ x. (x.container.begin ≤ x.at) × (x.at + 2 ≤ x.container.end) × (x.container.end ≤ limit x.container.header (bytes_of l.unit))) c.from-residual-in-err-container.result p.1;
+      within = none_made (λ x. (x.container.begin ≤ x.at) × (x.at + 2 ≤ x.container.end) × (x.container.end ≤ limit x.container.header (bytes_of l.unit))) c.from_residual-in_err-container.result p.1;
       uid = asked.uid ∙ was.uid;
     }
 
@@ -39,7 +39,7 @@ returns g c =
     let container = c.in_ok-container.container in
     let same = sym (walk.unit ∙ asked.unit) in
     let end = subst (λ u. container.end ≤ limit container.header (bytes_of u)) same c.in_ok-container.ensures.within.0 in
-    let done = walked c.args.self.now c.first-block.new.self _ _ c.in_ok-block.block was c.container.new.self _ container asked l _ c.walk.result walk in
+    let done = walked c.args.self.now c.first_block.new.self _ _ c.in_ok-block.block was c.container.new.self _ container asked l _ c.walk.result walk in
     record {
       located = from_none c.requires.few done;
       within = made_weaker c.walk.result (λ x w. (subst (λ z. z.begin ≤ x.at) (sym w.0) w.1, subst (λ z. x.at + 2 ≤ z.end) (sym w.0) w.2, subst (λ z. z.end ≤ limit z.header (bytes_of l.unit)) (sym w.0) end)) c.walk.ensures.within;

@@ -6,7 +6,7 @@ use Rattle.t5t.proofs.Replies.{in_space, performs-one}
 use Rattle.t5t.proofs.link.Link.read_block.Goals as goal
 
 pub receive-requires : goal.receive-requires
-receive-requires g c = in_space c.send-read-heard.ensures
+receive-requires g c = in_space c.send_read-heard.ensures
 
 pub returns-in-Ok : goal.returns-in-Ok
 returns-in-Ok g c =
@@ -17,7 +17,7 @@ returns-in-Ok g c =
     let is = ap Ok c.new-kept.ensures ∙ sym (ap (received step n) c.in-Ok.ensures) in
     record {
       read = record {
-        performs = performs-one c.send-read-heard.ensures (λ r. received step n (replied unit r)) (Ok c.new-kept.result) _ _ (is ∙ ap (λ u. received step n (replied u (reply_by c.send-read-heard.result c.send-read-heard.new.space))) was) refl;
+        performs = performs-one c.send_read-heard.ensures (λ r. received step n (replied unit r)) (Ok c.new-kept.result) _ _ (is ∙ ap (λ u. received step n (replied u (reply_by c.send_read-heard.result c.send_read-heard.new.space))) was) refl;
         kept = refl;
         uid = refl;
         unit = refl;
@@ -34,7 +34,7 @@ returns-in-Err g c =
     let is = sym (ap (received step n) c.in-Err.ensures) in
     record {
       read = record {
-        performs = performs-one c.send-read-heard.ensures (λ r. received step n (replied unit r)) (Err (record { cause = c.in-Err.cause; step = step; block = n })) _ _ (is ∙ ap (λ u. received step n (replied u (reply_by c.send-read-heard.result c.send-read-heard.new.space))) was) refl;
+        performs = performs-one c.send_read-heard.ensures (λ r. received step n (replied unit r)) (Err (record { cause = c.in-Err.cause; step = step; block = n })) _ _ (is ∙ ap (λ u. received step n (replied u (reply_by c.send_read-heard.result c.send_read-heard.new.space))) was) refl;
         kept = refl;
         uid = refl;
         unit = refl;

@@ -9,22 +9,22 @@ use Rattle.refusal.specs.declared.step.Step.TheVariants.{Container}
 use Rattle.t5t.proofs.Askings.{and_goes, and_stops, asked_true, asked_now, none_made}
 use Rattle.t5t.proofs.link.Link.sized.Goals as goal
 
-pub returns-in-err-mlen : goal.returns-in-err-mlen
-returns-in-err-mlen g c =
-    let p = err_from_is_err_and c.from-residual.result c.from-residual.ensures.1 in
+pub returns-in_err-mlen : goal.returns-in_err-mlen
+returns-in_err-mlen g c =
+    let p = err_from_is_err_and c.from_residual.result c.from_residual.ensures.1 in
     let h = c.args.header in
     let unit = bytes_of c.args.self.now.unit in
     record {
-      asked = asked_true (eqb h.mlen 0) (done (bounded h unit false h.mlen)) (eq-eqb h.mlen 0 c.if-header-ne0.false) (and_stops (long_form unit h) c.from-residual.result (p.1 ∙ ap Err p.2) c.in_err-mlen.ensures.asked);
+      asked = asked_true (eqb h.mlen 0) (done (bounded h unit false h.mlen)) (eq-eqb h.mlen 0 c.if-header-ne0.false) (and_stops (long_form unit h) c.from_residual.result (p.1 ∙ ap Err p.2) c.in_err-mlen.ensures.asked);
       few = c.in_err-mlen.ensures.few;
-      within = none_made (λ x. (x.end ≤ limit x.header unit) × (x.end ≤ 524288)) c.from-residual.result p.1;
+      within = none_made (λ x. (x.end ≤ limit x.header unit) × (x.end ≤ 524288)) c.from_residual.result p.1;
     }
 
 pub returns : goal.returns
 returns g c =
     let h = c.args.header in
     let unit = bytes_of c.args.self.now.unit in
-    let l = c.long-mlen.new.self in
+    let l = c.long_mlen.new.self in
     let got = c.in_ok-mlen.ensures.asked in
     let same = ap (λ u. bounded h (bytes_of u) true c.in_ok-mlen.mlen) got.unit in
     record {

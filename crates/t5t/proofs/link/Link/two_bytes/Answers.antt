@@ -6,19 +6,19 @@ use Rattle.refusal.specs.declared.step.Step.TheVariants.{Walk}
 use Rattle.t5t.proofs.Askings.{and_goes, and_stops, asked_value}
 use Rattle.t5t.proofs.link.Link.two_bytes.Goals as goal
 
-pub returns-in-err-high : goal.returns-in-err-high
-returns-in-err-high g c =
-    let p = err_from_is_err_and c.from-residual.result c.from-residual.ensures.1 in
+pub returns-in_err-high : goal.returns-in_err-high
+returns-in_err-high g c =
+    let p = err_from_is_err_and c.from_residual.result c.from_residual.ensures.1 in
     let few = c.in_err-high.ensures.few in
-    record { asked = and_stops (low_byte c.args.end (c.args.at + 1)) c.from-residual.result (p.1 ∙ ap Err p.2) c.in_err-high.ensures.asked; few = omega arith }
+    record { asked = and_stops (low_byte c.args.end (c.args.at + 1)) c.from_residual.result (p.1 ∙ ap Err p.2) c.in_err-high.ensures.asked; few = omega arith }
 
-pub returns-in-err-low : goal.returns-in-err-low
-returns-in-err-low g c =
-    let p = err_from_is_err_and c.from-residual-in-err-low.result c.from-residual-in-err-low.ensures.1 in
+pub returns-in_err-low : goal.returns-in_err-low
+returns-in_err-low g c =
+    let p = err_from_is_err_and c.from_residual-in_err-low.result c.from_residual-in_err-low.ensures.1 in
     let few = c.in_ok-high.ensures.few in
     let few2 = c.in_err-low.ensures.few in
     record {
-      asked = and_goes (low_byte c.args.end (c.args.at + 1)) c.in_ok-high.ensures.asked (and_stops (two_as c.in_ok-high.high) c.from-residual-in-err-low.result (p.1 ∙ ap Err p.2) c.in_err-low.ensures.asked);
+      asked = and_goes (low_byte c.args.end (c.args.at + 1)) c.in_ok-high.ensures.asked (and_stops (two_as c.in_ok-high.high) c.from_residual-in_err-low.result (p.1 ∙ ap Err p.2) c.in_err-low.ensures.asked);
       few = omega arith;
     }
 
@@ -27,6 +27,6 @@ returns g c =
     let few = c.in_ok-high.ensures.few in
     let few2 = c.in_ok-low.ensures.few in
     record {
-      asked = and_goes (low_byte c.args.end (c.args.at + 1)) c.in_ok-high.ensures.asked (and_goes (two_as c.in_ok-high.high) c.in_ok-low.ensures.asked (asked_value Walk c.byte-before-2.new.self _ c.word.ensures));
+      asked = and_goes (low_byte c.args.end (c.args.at + 1)) c.in_ok-high.ensures.asked (and_goes (two_as c.in_ok-high.high) c.in_ok-low.ensures.asked (asked_value Walk c.byte_before-2.new.self _ c.word.ensures));
       few = omega arith;
     }
