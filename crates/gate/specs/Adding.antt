@@ -8,7 +8,7 @@ use Rattle.request.specs.declared.uid.Uid.{Uid}
 use Rattle.field.specs.declared.span.Span.{Span}
 use Rattle.gate.specs.declared.answer.Answer.{Answer}
 use Rattle.gate.specs.declared.answer.Answer.TheVariants.{TagAdded, Refused}
-use Rattle.gate.specs.declared.refusal.Refusal.TheVariants.{OfMemory}
+use Rattle.gate.specs.declared.refused.Refusal.TheVariants.{OfMemory}
 use Rattle.gate.specs.declared.tags.Tags.{Tags}
 use Rattle.gate.specs.Tagged.{SameTags, WithNew, blank_tag}
 

@@ -6,7 +6,7 @@ use Rattle.t5t.specs.Detects.{Detects, place_of}
 use Rattle.gate.specs.declared.answer.Answer.{Answer}
 use Rattle.gate.specs.declared.answer.Answer.TheVariants as answer
 use Rattle.gate.specs.declared.kept_session.KeptSession.{KeptSession}
-use Rattle.gate.specs.declared.refusal.Refusal.TheVariants.{OfDetection}
+use Rattle.gate.specs.declared.refused.Refusal.TheVariants.{OfDetection}
 use Rattle.gate.specs.declared.rehearsal.Rehearsal.{Rehearsal}
 use Rattle.gate.specs.declared.session.Session.TheVariants as session
 use Rattle.gate.specs.Rehearsals.{SameSessions}

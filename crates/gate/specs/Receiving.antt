@@ -5,7 +5,7 @@ use Rattle.t5t.specs.declared.reading.NotRead.{NotRead}
 use Rattle.t5t.specs.declared.reading.Received.{Received}
 use Rattle.gate.specs.declared.answer.Answer.{Answer}
 use Rattle.gate.specs.declared.answer.Answer.TheVariants as answer
-use Rattle.gate.specs.declared.refusal.Refusal.TheVariants.{OfReading}
+use Rattle.gate.specs.declared.refused.Refusal.TheVariants.{OfReading}
 use Rattle.gate.specs.declared.rehearsal.Rehearsal.{Rehearsal}
 use Rattle.gate.specs.Rehearsals.{SameSessions}
 use Rattle.gate.specs.Sessions.{ReadAt, air_over, fresh_air}

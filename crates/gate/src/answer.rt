@@ -4,7 +4,7 @@ ghost use Rattle.gate.specs.Hearings.{Tells};
 use crate::hex::Hex;
 use crate::kept_session::KeptSession;
 use crate::listing::Listing;
-use crate::refusal::Refusal;
+use crate::refused::Refusal;
 use crate::span::SpanText;
 use crate::uid::UidHex;
 use crate::walk::Walk;

@@ -1,7 +1,7 @@
 // The records of a message as lines of text.
 use crate::hex::Hex;
 use crate::line_error::LineError;
-use crate::refusal::Refusal;
+use crate::refused::Refusal;
 use ndef::{Reader, Record};
 use std::alloc::Global;
 use std::fmt;

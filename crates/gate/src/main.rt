@@ -10,7 +10,7 @@ mod kept_session;
 mod line_error;
 mod listing;
 mod prepared;
-mod refusal;
+mod refused;
 mod rehearsal;
 mod script;
 mod session;

@@ -18,7 +18,7 @@ use crate::hex::Hex;
 use crate::kept_session::KeptSession;
 use crate::line_error::LineError;
 use crate::listing::Listing;
-use crate::refusal::Refusal;
+use crate::refused::Refusal;
 use crate::session::Session;
 use crate::spaces::Spaces;
 use crate::span::SpanText;

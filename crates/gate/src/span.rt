@@ -13,7 +13,7 @@ pub struct SpanText(pub Span);
 pub fn read(word: &[u8]) -> Result<Span, LineError>
     ensures { IfOk result (λ s. Spells word.now s) }
 {
-    if word == b"endless" {
+    if word == b"endless".as_slice() {
         return Ok(Span::Endless);
     }
     match words::number(word) {

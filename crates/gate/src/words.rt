@@ -119,7 +119,7 @@ pub fn hex_digit(byte: u8) -> Result<u8, LineError>
 // The bytes that a word gives in HEX.
 pub fn hex(heap: Global, word: &[u8]) -> Result<Vec<u8>, LineError> {
     let mut bytes = Vec::new(heap);
-    if word == b"-" {
+    if word == b"-".as_slice() {
         return Ok(bytes);
     }
     if word.is_empty() {

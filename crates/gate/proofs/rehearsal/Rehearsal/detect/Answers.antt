@@ -13,7 +13,7 @@ returns-in-Ok c =
     let old = c.args.self.now.tags in
     let found = c.in-Ok.found in
     let left = c.detect.new.space in
-    let blank : c.as-mut-slice.result.now ≡ replicate longest 0 = c.as-mut-slice.ensures.value ∙ c.in_ok-space.ensures.items-if-clones-equal (λ y e. e) in
+    let blank : c.as_mut_slice.result.now ≡ replicate longest 0 = c.as_mut_slice.ensures.value ∙ c.in_ok-space.ensures.items_if_clones_equal (λ y e. e) in
     let fresh = subst (λ s. Detects u (air_over old s) (air_over c.detect.new.self left) (Ok found)) blank c.in-Ok.ensures in
     let detects = subst (λ t. Detects u (fresh_air old) (air_over t left) (Ok found)) (sym c.keep.ensures.tags) fresh in
     let behind = c.keep.ensures.kept.0 ∙ ap (λ l. l ++ session.Detected found.session ∷ []) c.reserve.ensures.items in
@@ -26,6 +26,6 @@ returns c =
     let old = c.args.self.now.tags in
     let not_found = c.in-Err.not_found in
     let left = c.detect.new.space in
-    let blank : c.as-mut-slice.result.now ≡ replicate longest 0 = c.as-mut-slice.ensures.value ∙ c.in_ok-space.ensures.items-if-clones-equal (λ y e. e) in
+    let blank : c.as_mut_slice.result.now ≡ replicate longest 0 = c.as_mut_slice.ensures.value ∙ c.in_ok-space.ensures.items_if_clones_equal (λ y e. e) in
     let detects = subst (λ s. Detects u (air_over old s) (air_over c.detect.new.self left) (Err not_found)) blank c.in-Err.ensures in
     record { unchanged = tt; detected = record { result = Err not_found; space = left; detects = detects; finds = (c.reserve.ensures.items, refl); message = refl; draft = refl } }

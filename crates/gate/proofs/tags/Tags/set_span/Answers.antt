@@ -6,10 +6,10 @@ pub returns : goal.returns
 returns c =
     let u = c.args.uid.0 in
     let s = c.args.span in
-    let x = c.index-mut.result.now in
+    let x = c.index_mut.result.now in
     let xs = vec_items c.args.self.now.rack.slots in
     let here = ap (span_at u s xs x) c.in_ok-index.ensures.0 in
     record {
-      after = ap (λ y. set xs c.in_ok-index.index (record { tag = y.tag; span = s })) c.index-mut.ensures.value ∙ here ∙ spanned-first u s xs x;
+      after = ap (λ y. set xs c.in_ok-index.index (record { tag = y.tag; span = s })) c.index_mut.ensures.value ∙ here ∙ spanned-first u s xs x;
       absent = tt;
     }
