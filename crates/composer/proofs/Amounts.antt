@@ -1,8 +1,5 @@
 -- How long a message is, record by record, and which description is the first bad one. Assumes nothing.
-use Rattle.std.proofs.Common.{◌≡◌, ℕ, ◌+◌, ◌<◌, ◌≤◌, Bool, true, false, cond, List, [], ◌∷◌, ◌++◌, map, length, take, drop, Some, None, sym, refl, ap, ◌∙◌, subst, add_assoc, arith, length-append}
-use Rattle.std.proofs.lemmas.Bool.{cond-true, cond-false}
-use Rattle.composer.specs.declared.description.Description.{Description}
-use Rattle.composer.specs.Composing.{described, sound, first_bad}
+use Rattle.std.proofs.Common.{◌≡◌, ℕ, ◌+◌, Bool, false, List, [], ◌∷◌, ◌++◌, length, refl, ◌∙◌, arith, length-append}
 use Rattle.ndef.specs.Content.{Content}
 use Rattle.composer.specs.Message.{encoded, encoded_length, none, message_from}
 use Rattle.composer.proofs.Encoded.{encoded-length}

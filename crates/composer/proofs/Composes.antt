@@ -1,13 +1,13 @@
 -- The composer: the loop that lays the described records, and what it has done in the end. Assumes nothing.
-use Rattle.std.proofs.Common.{◌≡◌, ℕ, ◌+◌, ◌^◌, ◌<◌, ◌≤◌, Bool, true, false, cond, eqb, List, [], ◌∷◌, ◌++◌, map, length, get_or, take, drop, Some, None, Ok, Err, Option, Result, sym, refl, ap, ◌∙◌, subst, ⊎_elim, arith, take_at}
+use Rattle.std.proofs.Common.{◌≡◌, ℕ, ◌+◌, ◌^◌, ◌<◌, ◌≤◌, true, false, eqb, List, [], ◌∷◌, ◌++◌, map, length, get_or, take, drop, Some, None, Ok, Err, Option, sym, refl, ap, ◌∙◌, subst, ⊎_elim, arith, take_at}
 use Rattle.std.specs.List.{AllByRecursion}
 use Rattle.std.proofs.lemmas.List.{drop_more, drop_all}
 use Rattle.std.proofs.lemmas.Bool.{cond-true, cond-false, cases_Bool, cases_eq, eq-eqb, ne_eqb, true≢false}
 use Rattle.composer.specs.declared.description.Description.{Description}
 use Rattle.composer.specs.declared.fields.Fields.{Fields}
 use Rattle.header.specs.declared.refusal.RecordRefusal.{RecordRefusal}
-use Rattle.header.specs.declared.refusal.RecordRefusal.TheVariants.{SpaceShort, BadDescription}
-use Rattle.composer.specs.Composing.{described, sound, first_bad, longest, fitted, composed_by, composed, leaves, ReadAs, Composes}
+use Rattle.header.specs.declared.refusal.RecordRefusal.TheVariants.{SpaceShort}
+use Rattle.composer.specs.Composing.{described, sound, first_bad, longest, composed_by, composed, ReadAs, Composes}
 use Rattle.ndef.specs.Content.{Content}
 use Rattle.composer.specs.Describing.{Describes}
 use Rattle.composer.specs.Fields.{content_of, Brief}
@@ -19,7 +19,7 @@ use Rattle.composer.proofs.Described.{description_told}
 use Rattle.composer.proofs.Encoded.{encoded-length}
 use Rattle.composer.proofs.Fitted.{Sized, no_answer, fitted_ok, fitted_err, fitted_fits, fitted_short}
 use Rattle.space.proofs.Laying.{Laying, laying_none, laying_more, laying_all, next_fits}
-use Rattle.composer.proofs.ReadBack.{Tellable, Rest, read_back}
+use Rattle.composer.proofs.ReadBack.{Tellable, read_back}
 use Rattle.composer.proofs.Rebuilt.{some_none}
 
 -- ---- what the length tells

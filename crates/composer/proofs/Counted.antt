@@ -1,9 +1,8 @@
 -- The loop that adds up what the described records take, up to the first bad description. Assumes nothing.
-use Rattle.std.proofs.Common.{◌≡◌, ℕ, ◌+◌, ◌<◌, ◌≤◌, min, Bool, true, false, cond, ◌⊎◌, List, [], ◌∷◌, ◌++◌, map, length, get_or, take, drop, Some, None, Ok, Err, Option, Result, sym, refl, ap, ◌∙◌, subst, inl, inr, ⊎_elim, arith, take_all}
+use Rattle.std.proofs.Common.{◌≡◌, ℕ, ◌+◌, ◌<◌, ◌≤◌, min, true, false, cond, ◌⊎◌, List, [], ◌∷◌, map, length, get_or, take, drop, None, Ok, Err, sym, refl, ap, ◌∙◌, inl, inr, arith, take_all}
 use Rattle.std.proofs.lemmas.List.{take_more, drop_more, drop_all, map_push}
-use Rattle.std.proofs.lemmas.Bool.{cond-true, cond-false, cases_Bool}
+use Rattle.std.proofs.lemmas.Bool.{cond-true, cond-false}
 use Rattle.composer.specs.declared.description.Description.{Description}
-use Rattle.header.specs.declared.refusal.RecordRefusal.{RecordRefusal}
 use Rattle.header.specs.declared.refusal.RecordRefusal.TheVariants.{BadDescription}
 use Rattle.composer.specs.Composing.{described, sound, first_bad, longest, fitted, composed_by, composed}
 use Rattle.ndef.specs.Content.{Content}

@@ -1,12 +1,11 @@
 -- A good description: the code's fields say what it describes, and a header can tell of it. Assumes nothing.
-use Rattle.std.proofs.Common.{◌≡◌, ℕ, ◌+◌, ◌^◌, ◌<◌, ◌≤◌, true, ◌&&◌, leb, List, length, take, drop, sym, refl, ap, ◌∙◌, subst, arith, length-drop, length-take}
+use Rattle.std.proofs.Common.{◌≡◌, ℕ, ◌+◌, ◌^◌, ◌<◌, ◌≤◌, true, ◌&&◌, leb, List, length, drop, ap, ◌∙◌, arith, length-drop, length-take}
 use Rattle.std.proofs.lemmas.Bool.{and_parts, and_from, leb-true}
 use Rattle.composer.specs.declared.description.Description.{Description}
 use Rattle.composer.specs.declared.description.Extent.{Extent}
 use Rattle.composer.specs.declared.fields.Fields.{Fields}
 use Rattle.composer.specs.Composing.{field_of, described, inside, tellable, sound}
 use Rattle.composer.specs.Describing.{Names, Describes}
-use Rattle.composer.specs.Fields.{content_of, Brief}
 use Rattle.header.specs.Format.{allows}
 use Rattle.composer.proofs.ReadBack.{Tellable}
 

@@ -1,12 +1,12 @@
 -- One record, composed and then read: the reader finds the lengths and the fields that went in. Assumes nothing.
-use Rattle.std.proofs.Common.{◌≡◌, ℕ, zero, suc, ◌+◌, ◌-◌, ◌*◌, ◌/◌, ◌%◌, ◌^◌, ◌<◌, ◌≤◌, Bool, true, false, cond, not, ◌&&◌, eqb, ltb, leb, List, [], ◌∷◌, ◌++◌, length, get_or, take, drop, sym, refl, ap, ◌∙◌, subst, append_assoc, arith, length-append, take_at, drop_at}
+use Rattle.std.proofs.Common.{◌≡◌, ℕ, ◌+◌, ◌-◌, ◌/◌, ◌%◌, ◌^◌, ◌<◌, ◌≤◌, Bool, true, false, cond, not, eqb, List, [], ◌∷◌, ◌++◌, length, get_or, take, drop, sym, refl, ap, ◌∙◌, subst, append_assoc, arith, length-append, take_at, drop_at}
 use mathlib.Core.Bool.{beq}
 use Rattle.std.proofs.lemmas.Bool.{cond-true, cond-false, and_from, le-leb, ltb-false}
 use Rattle.ndef.specs.Content.{Content}
 use Rattle.header.specs.Format.{allows}
-use Rattle.header.specs.Header.{has, fixed, mb, me, cf, sr, il}
+use Rattle.header.specs.Header.{has, fixed, sr, il}
 use Rattle.ndef.specs.Reading.{flags_of, wide, id_length, payload_length, size, good}
-use Rattle.composer.specs.Message.{short, named, header_byte, four_bytes, payload_count, id_count, header, encoded, encoded_length}
+use Rattle.composer.specs.Message.{short, named, four_bytes, header, encoded, encoded_length}
 use Rattle.ndef.proofs.Contents.{content_at}
 use Rattle.composer.proofs.Flags.{Says, says}
 

@@ -1,8 +1,8 @@
 -- The answer for a message that is to go into a space, by its length. Assumes nothing.
-use Rattle.std.proofs.Common.{◌≡◌, ℕ, ◌+◌, ◌<◌, ◌≤◌, Bool, true, false, cond, ltb, leb, List, length, Ok, Err, Result, sym, refl, ap, ◌∙◌, subst, ⊎_elim, arith}
+use Rattle.std.proofs.Common.{◌≡◌, ℕ, ◌<◌, ◌≤◌, List, length, Ok, Err, Result, sym, ◌∙◌, ⊎_elim, arith}
 use Rattle.std.proofs.lemmas.Bool.{cond-true, cond-false, cases_lt, lt-ltb, le-ltb, le-leb, lt-leb}
 use Rattle.header.specs.declared.refusal.RecordRefusal.{RecordRefusal}
-use Rattle.header.specs.declared.refusal.RecordRefusal.TheVariants.{SpaceShort, BadHeader, BadDescription}
+use Rattle.header.specs.declared.refusal.RecordRefusal.TheVariants.{SpaceShort, BadDescription}
 use Rattle.composer.specs.Composing.{longest, fitted}
 
 pub no_answer : {n : ℕ} {e : RecordRefusal} → ◌≡◌ {A = Result ℕ RecordRefusal} (Err e) (Ok n) → ⊥

@@ -1,5 +1,5 @@
 -- A composed message, read: the same records, in order. Assumes nothing.
-use Rattle.std.proofs.Common.{◌≡◌, ℕ, suc, ◌+◌, ◌^◌, ◌<◌, ◌≤◌, Bool, true, false, eqb, ltb, List, [], ◌∷◌, ◌++◌, length, drop, None, sym, refl, ap, ◌∙◌, subst, arith, length-append, length-drop, drop-drop, drop_at}
+use Rattle.std.proofs.Common.{◌≡◌, ℕ, ◌+◌, ◌^◌, ◌<◌, ◌≤◌, true, false, eqb, ltb, List, [], ◌∷◌, ◌++◌, length, drop, None, sym, refl, ap, ◌∙◌, arith, length-append, length-drop, drop-drop, drop_at}
 use Rattle.std.specs.List.{AllByRecursion}
 use Rattle.std.proofs.lemmas.Bool.{and_from, and_right, eq-eqb, ne_eqb, lt-ltb}
 use Rattle.ndef.specs.Content.{Content}
@@ -8,7 +8,7 @@ use Rattle.ndef.specs.Reading.{size, good, good_at, entry_at, content, over, one
 use Rattle.composer.specs.Message.{encoded, none, message_from, message}
 use Rattle.ndef.proofs.Contents.{content_at, content_at_lem}
 use Rattle.composer.proofs.Encoded.{encoded-size, encoded-content, encoded-good}
-use Rattle.ndef.proofs.Listings.{Steps, steps, left_over, left-good}
+use Rattle.ndef.proofs.Listings.{steps, left_over, left-good}
 
 -- a record that a header can tell of
 pub record Tellable (c : Content) : Type 0 where

@@ -1,19 +1,17 @@
 -- A message with shortest headers, read and composed again: the same bytes. Assumes nothing.
-use Rattle.std.proofs.Common.{◌≡◌, ℕ, zero, suc, ◌+◌, ◌-◌, ◌^◌, ◌<◌, ◌≤◌, Bool, true, false, cond, not, eqb, ltb, leb, List, [], ◌∷◌, ◌++◌, length, get_or, take, drop, Some, None, Option, sym, refl, ap, ◌∙◌, subst, ⊎_elim, add-zero, arith, length-append, length-drop, take-append-drop, get_or-drop, take-suc, drop-drop, take-add}
-use mathlib.Core.Bool.{beq}
-use Rattle.std.proofs.lemmas.Bool.{and_parts, and_from, and_right, not-true, cond-true, cond-false, cases_Bool, cases_eq, eq-eqb, ne_eqb, eqb-true, lt-ltb}
+use Rattle.std.proofs.Common.{◌≡◌, ℕ, zero, suc, ◌+◌, ◌-◌, ◌<◌, ◌≤◌, Bool, true, false, cond, eqb, ltb, leb, List, [], ◌∷◌, ◌++◌, length, get_or, take, drop, Some, None, Option, sym, refl, ap, ◌∙◌, subst, ⊎_elim, add-zero, arith, length-drop, take-append-drop, get_or-drop, take-suc, drop-drop, take-add}
+use Rattle.std.proofs.lemmas.Bool.{and_parts, and_from, and_right, cond-true, cond-false, cases_Bool, cases_eq, eq-eqb, ne_eqb, eqb-true, lt-ltb}
 use Rattle.std.specs.List.{AllByRecursion}
 use Rattle.std.proofs.lemmas.List.{drop_all}
 use Rattle.composer.specs.Composing.{Tight, Shortest}
-use Rattle.ndef.specs.Content.{Content}
 use Rattle.header.specs.Format.{number, format_of}
-use Rattle.header.specs.Header.{has, fixed, mb, me, cf, sr, il}
-use Rattle.ndef.specs.Reading.{Bytes, flags_of, wide, kind_length, id_length, payload_length, size, good, good_at, entry_at, over, one, left, entries, contents, content, fault, records}
+use Rattle.header.specs.Header.{has, fixed, sr, il}
+use Rattle.ndef.specs.Reading.{Bytes, flags_of, kind_length, id_length, payload_length, size, good, good_at, over, left, entries, contents, fault, records}
 use Rattle.composer.specs.Message.{short, named, header_byte, four_bytes, header, encoded, none, message_from, message}
 use Rattle.ndef.proofs.Contents.{content_at, content_at_lem, kind-long, id-long, payload-long}
 use Rattle.composer.proofs.Encoded.{four_wide}
 use Rattle.composer.proofs.Flags.{rebuilt}
-use Rattle.ndef.proofs.Listings.{fixed_low, Good, good_facts, Steps, steps, left_over, left-good, left-bad}
+use Rattle.ndef.proofs.Listings.{good_facts, steps, left_over, left-good, left-bad}
 
 -- the first bytes of a list, one by one
 first3 : (bs : List ℕ) → 3 ≤ length bs → take 3 bs ≡ get_or bs 0 0 ∷ get_or bs 1 0 ∷ get_or bs 2 0 ∷ []

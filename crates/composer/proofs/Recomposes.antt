@@ -1,11 +1,11 @@
 -- The recomposer: the loop that adds up, the loop that lays the records again, and what is done in the end. Assumes nothing.
-use Rattle.std.proofs.Common.{◌≡◌, ℕ, zero, suc, ◌+◌, ◌-◌, ◌^◌, ◌<◌, ◌≤◌, min, Bool, true, false, cond, ◌&&◌, eqb, ltb, List, [], ◌∷◌, ◌++◌, length, get_or, take, drop, Some, None, Ok, Err, Option, Result, sym, refl, ap, ◌∙◌, subst, ⊎_elim, arith, take_at}
+use Rattle.std.proofs.Common.{◌≡◌, ℕ, zero, suc, ◌+◌, ◌-◌, ◌^◌, ◌<◌, ◌≤◌, min, true, false, ◌&&◌, eqb, List, ◌++◌, length, take, drop, Some, None, Ok, Err, Option, Result, sym, refl, ap, ◌∙◌, subst, ⊎_elim, arith, take_at}
 use Rattle.std.specs.List.{AllByRecursion}
-use Rattle.std.proofs.lemmas.Bool.{and_parts, and_from, and_right, cases_Bool, cases_eq, cases_lt, eqb-true, eq-eqb, ne_eqb, lt-ltb, ltb-true, cond_both}
+use Rattle.std.proofs.lemmas.Bool.{cases_Bool, ne_eqb, lt-ltb, cond_both}
 use Rattle.ndef.specs.declared.record.Record.{Record}
 use Rattle.header.specs.declared.refusal.RecordRefusal.{RecordRefusal}
 use Rattle.header.specs.declared.refusal.RecordRefusal.TheVariants.{SpaceShort, BadHeader, BadDescription}
-use Rattle.composer.specs.Composing.{longest, fitted, recomposed_by, recomposed, leaves, ReadAs, Shortest, Recomposes}
+use Rattle.composer.specs.Composing.{longest, fitted, recomposed_by, recomposed, ReadAs, Shortest, Recomposes}
 use Rattle.ndef.specs.Content.{Content}
 use Rattle.composer.specs.Fields.{Brief}
 use Rattle.header.specs.Format.{format_of, allows}
@@ -19,10 +19,10 @@ use Rattle.composer.proofs.Amounts.{amount, message-length}
 use Rattle.composer.proofs.Composes.{reads-back}
 use Rattle.composer.proofs.Encoded.{encoded-length}
 use Rattle.ndef.proofs.Contents.{content_at, content_at_lem, kind-long, id-long, payload-long}
-use Rattle.ndef.proofs.Finds.{behind, behind_within}
+use Rattle.ndef.proofs.Finds.{behind}
 use Rattle.composer.proofs.Fitted.{Sized, no_answer, fitted_ok, fitted_err, fitted_fits, fitted-long, fitted_short}
 use Rattle.space.proofs.Laying.{Laying, laying_none, laying_more, laying_all, next_fits}
-use Rattle.ndef.proofs.Listings.{good_facts, Steps, steps, left_over, left-good, left-bad}
+use Rattle.ndef.proofs.Listings.{good_facts, steps, left_over, left-good, left-bad}
 use Rattle.composer.proofs.ReadBack.{Tellable}
 use Rattle.composer.proofs.Rebuilt.{none_at_end, some_none, bytes_drop, rebuilds}
 

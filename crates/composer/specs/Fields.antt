@@ -1,5 +1,5 @@
 -- The code's fields of a record, as what the record says.
-use Rattle.std.specs.Prelude.{ℕ, ◌≤◌, length}
+use Rattle.std.specs.Prelude.{◌≤◌, length}
 use Rattle.composer.specs.declared.fields.Fields.{Fields}
 use Rattle.ndef.specs.Content.{Content}
 

@@ -1,15 +1,15 @@
 -- The laws of an exchange, for whoever builds on fields: what it does to each tag, and whose answer it brings. Assumes
 -- nothing.
-use Rattle.std.proofs.Common.{◌≡◌, ℕ, ◌-◌, ◌<◌, ◌≤◌, Bool, true, false, cond, ◌⊎◌, List, [], ◌∷◌, ◌++◌, map, length, Some, None, Option, sym, refl, ap, ◌∙◌, subst, inl, inr, ⊎_elim, append-nil, arith}
+use Rattle.std.proofs.Common.{◌≡◌, ℕ, ◌-◌, ◌≤◌, false, List, [], ◌∷◌, ◌++◌, map, length, Some, None, Option, sym, refl, ap, ◌∙◌, inl, inr, append-nil, arith}
 use mathlib.Core.List.{map-append}
 use Rattle.std.specs.List.{AllByRecursion, flat_map}
 use Rattle.std.specs.Option.{option_to_list}
-use Rattle.std.proofs.lemmas.Bool.{cond-true, cond-false, cond_both, cases_Bool, true≢false, le-ltb, ltb-true, ltb-false}
+use Rattle.std.proofs.lemmas.Bool.{cond-false, cond_both, true≢false, le-ltb, ltb-false}
 use Rattle.memory.specs.Model.{Sound}
 use Rattle.tag.specs.Means.{longest}
-use Rattle.tag.specs.Rules.{Turn, silence, turn}
+use Rattle.tag.specs.Rules.{silence, turn}
 use Rattle.tag.proofs.Another.{another_silent}
-use Rattle.tag.proofs.Keeps.{Short, Keeps, turn_keeps}
+use Rattle.tag.proofs.Keeps.{Short, turn_keeps}
 use Rattle.field.specs.declared.span.Span.{Span}
 use Rattle.field.specs.declared.span.Span.TheVariants.{Endless, Left}
 use Rattle.field.specs.Addressed.{AddressedTo, Aside, Lone, NoLonger}

@@ -1,14 +1,14 @@
 -- Exchanges put together from smaller ones. Assumes nothing.
-use Rattle.std.proofs.Common.{◌≡◌, ℕ, ◌+◌, ◌-◌, ◌<◌, ◌≤◌, min, Bool, true, false, cond, ltb, List, [], ◌∷◌, ◌++◌, map, length, Some, None, Option, sym, refl, ap, ◌∙◌, subst, ⊎_elim, append_assoc, append-nil, arith}
+use Rattle.std.proofs.Common.{◌≡◌, ℕ, Bool, true, false, cond, List, [], ◌∷◌, ◌++◌, map, length, Some, None, Option, sym, refl, ap, ◌∙◌, append_assoc, append-nil, arith}
 use mathlib.Core.List.{map-append}
-use Rattle.std.specs.List.{flat_map, AllByRecursion}
+use Rattle.std.specs.List.{flat_map}
 use Rattle.std.specs.Option.{option_map, option_to_list}
-use Rattle.std.proofs.lemmas.Bool.{cond-true, cond-false, lt-ltb, le-ltb, ltb-true, cases_lt}
+use Rattle.std.proofs.lemmas.Bool.{lt-ltb, ltb-true}
 use Rattle.tag.specs.Means.{Takes, laid_by}
-use Rattle.tag.specs.Rules.{Turn, turn}
+use Rattle.tag.specs.Rules.{turn}
 use Rattle.tag.specs.Tag.{TagModel}
 use Rattle.field.specs.declared.heard.Heard.{Heard}
-use Rattle.field.specs.declared.heard.Heard.TheVariants.{Nothing, One, Several}
+use Rattle.field.specs.declared.heard.Heard.TheVariants.{Nothing, One}
 use Rattle.field.specs.declared.span.Span.{Span}
 use Rattle.field.specs.declared.span.Span.TheVariants.{Endless, Left}
 use Rattle.field.specs.Exchange.{hears, says, heard_from, laid_all, heard_of, together, Exchange}

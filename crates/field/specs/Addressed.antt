@@ -1,5 +1,5 @@
 -- A frame for one tag, and the tags that stand aside.
-use Rattle.std.specs.Prelude.{◌≡◌, ℕ, ◌≤◌, true, false, ◌⊎◌, List, [], ◌∷◌, ◌++◌, ◌≢◌}
+use Rattle.std.specs.Prelude.{◌≡◌, ℕ, ◌≤◌, true, false, ◌⊎◌, List, ◌∷◌, ◌++◌, ◌≢◌}
 use Rattle.std.specs.List.{AllByRecursion}
 use Rattle.request.specs.Frame.{addressed, code_at, uid_at}
 use Rattle.field.specs.declared.span.Span.{Span}

@@ -1,5 +1,5 @@
 -- How long a tag stays in reach: endless, or a number of half exchanges.
-use Rattle.std.specs.Prelude.{ℕ, ◌-◌, Bool, true, nat_lt}
+use Rattle.std.specs.Prelude.{◌-◌, Bool, true, nat_lt}
 use Rattle.field.specs.declared.span.Span.{Span}
 use Rattle.field.specs.declared.span.Span.TheVariants.{Endless, Left}
 

@@ -1,10 +1,10 @@
 -- From the lengths of a record to the record, and from the record to what the reader hands out. Assumes nothing.
-use Rattle.std.proofs.Common.{◌≡◌, ℕ, zero, suc, ◌+◌, ◌-◌, ◌<◌, ◌≤◌, Bool, true, false, eqb, List, [], ◌∷◌, length, take, drop, sym, refl, ap, ◌∙◌, subst, add_assoc, arith, length-drop}
+use Rattle.std.proofs.Common.{◌≡◌, ℕ, zero, suc, ◌+◌, ◌≤◌, false, eqb, List, [], ◌∷◌, length, take, drop, sym, refl, ap, ◌∙◌, arith, length-drop}
 use Rattle.ndef.specs.declared.layout.Layout.{Layout}
 use Rattle.ndef.specs.declared.record.Part.{Part}
 use Rattle.ndef.specs.declared.record.Record.{Record}
-use Rattle.ndef.specs.Reader.{stretch_of, entry_of, Lays, Found, Lies, Handed}
-use Rattle.ndef.specs.Reading.{flags_of, kind_length, id_length, payload_length, payload_place, size, good_at, Stretch, stretch, entry_at, over, left, one}
+use Rattle.ndef.specs.Reader.{stretch_of, Lays, Found, Lies, Handed}
+use Rattle.ndef.specs.Reading.{payload_length, payload_place, size, Stretch, stretch, entry_at, over, left, one}
 use Rattle.ndef.proofs.Contents.{content_at_lem, payload-long}
 use Rattle.ndef.proofs.Listings.{good_facts, steps, left-good}
 

@@ -4,7 +4,7 @@ use mathlib.Core.Bool.{beq}
 use Rattle.std.proofs.lemmas.Bool.{and_parts, leb-true, not-true, cases_Bool, cond-true, cond-false}
 use Rattle.header.specs.Format.{format_of, allows}
 use Rattle.header.specs.Header.{has, fixed, mb, me, cf, sr, il}
-use Rattle.ndef.specs.Reading.{flags_of, kind_length, id_length, payload_length, size, good, good_at, entry_at, Listing, ended, bad, one, over, listing, left}
+use Rattle.ndef.specs.Reading.{flags_of, kind_length, id_length, payload_length, size, good, good_at, entry_at, ended, bad, one, over, listing, left}
 
 -- a header has three bytes at least, and seven at most
 fixed_range : (short named : Bool) → (3 ≤ 2 + cond short 1 4 + cond named 1 0) × (2 + cond short 1 4 + cond named 1 0 ≤ 7)

@@ -1,5 +1,5 @@
 -- What each call of the reader hands out. The reader of a message m stands at a place p.
-use Rattle.std.specs.Prelude.{◌≡◌, ℕ, ◌+◌, ◌≤◌, Bool, true, false, List, length, take, drop, Some, None, Ok, Err, Option, Result}
+use Rattle.std.specs.Prelude.{◌≡◌, ℕ, ◌+◌, ◌≤◌, Bool, true, List, length, take, drop, Some, None, Ok, Err, Option, Result}
 use Rattle.ndef.specs.declared.layout.Layout.{Layout}
 use Rattle.ndef.specs.declared.record.Part.{Part}
 use Rattle.ndef.specs.declared.record.Record.{Record}

@@ -1,11 +1,11 @@
 -- Procedures whose frames are all for one tag. Assumes nothing.
-use Rattle.std.proofs.Common.{◌≡◌, ℕ, ◌+◌, List, [], ◌∷◌, ◌++◌, map, sym, refl, ap, ◌∙◌, subst}
+use Rattle.std.proofs.Common.{◌≡◌, ℕ, ◌+◌, List, [], ◌∷◌, map, sym, refl, ap, ◌∙◌, subst}
 use Rattle.tag.specs.Tag.{TagModel}
 use Rattle.field.specs.Addressed.{AddressedTo, Lone}
 use Rattle.field.specs.Exchange.{hears, heard_from, laid_all}
 use Rattle.field.specs.Placed.{Placed, SoundAll}
 use Rattle.field.proofs.Addressed.{lone_heard, lone_stays, sound_stays}
-use Rattle.procedure.specs.Procedure.{Reply, reply_of, Procedure, answer, send, Air, stirred, Outcome, counted, perform, Sends}
+use Rattle.procedure.specs.Procedure.{reply_of, Procedure, answer, send, Air, stirred, Outcome, counted, perform, Sends}
 
 abbrev pub air : List Placed → List ℕ → Air
 air ts s = record { tags = ts; space = s }

@@ -1,7 +1,7 @@
 -- Procedures put together. Assumes nothing.
-use Rattle.std.proofs.Common.{◌≡◌, ℕ, ◌+◌, List, map, sym, refl, ap, ◌∙◌, arith}
-use Rattle.field.specs.Exchange.{hears, heard_from}
-use Rattle.procedure.specs.Procedure.{Reply, reply_of, Procedure, answer, send, bind, Air, stirred, Outcome, counted, perform, Performs, Sends}
+use Rattle.std.proofs.Common.{◌≡◌, ℕ, ◌+◌, List, sym, refl, ap, ◌∙◌, arith}
+use Rattle.field.specs.Exchange.{heard_from}
+use Rattle.procedure.specs.Procedure.{reply_of, Procedure, answer, send, bind, Air, stirred, Outcome, counted, perform, Performs, Sends}
 
 -- the second procedure starts from where the first has left the air, and the frames of both count
 abbrev pub onwards : {V W : Type 0} → Outcome V → (V → Procedure W) → Outcome W

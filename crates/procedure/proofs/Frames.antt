@@ -1,18 +1,17 @@
 -- What a tag makes of the frames that a gate sends. Assumes nothing.
-use Rattle.std.proofs.Common.{◌≡◌, ℕ, ◌+◌, ◌*◌, ◌/◌, ◌%◌, ◌<◌, ◌≤◌, Bool, true, false, cond, not, ◌&&◌, ◌||◌, eqb, leb, ◌⊎◌, List, [], ◌∷◌, ◌++◌, length, get_or, take, drop, Ok, Err, Result, sym, refl, ap, ◌∙◌, subst, inl, inr, ⊎_elim, arith}
-use Rattle.std.proofs.lemmas.Bool.{cond-true, cond-false, cond_both, cases_Bool, cases_eq, eq-eqb, le-leb, lt-leb, leb-true, leb-false, eqb-true}
+use Rattle.std.proofs.Common.{◌≡◌, ℕ, ◌+◌, ◌*◌, ◌/◌, ◌%◌, ◌<◌, ◌≤◌, Bool, true, false, cond, ◌||◌, eqb, leb, List, [], ◌∷◌, ◌++◌, Ok, Err, sym, refl, ap, ◌∙◌, subst, inl, ⊎_elim, arith}
+use Rattle.std.proofs.lemmas.Bool.{cond-true, cond_both, cases_Bool, cases_eq, eq-eqb, le-leb, lt-leb, leb-true, leb-false}
 use Rattle.memory.specs.Model.{count_of}
 use Rattle.request.specs.declared.error_code.ErrorCode.TheVariants.{NotSupported, Absent}
-use Rattle.request.specs.Frame.{addressed, code_at, intact, little, uid_at, body_of}
-use Rattle.request.specs.Command.{command_of}
-use Rattle.tag.specs.Rules.{Turn, replies, reads_blocks, blocks, blocks_from, heeds, turn}
+use Rattle.request.specs.Frame.{little}
+use Rattle.tag.specs.Rules.{replies, reads_blocks, blocks_from, turn}
 use Rattle.tag.specs.Tag.{TagModel}
 use Rattle.field.specs.Addressed.{AddressedTo}
 use Rattle.field.specs.Exchange.{hears}
 use Rattle.field.specs.Span.{reaches}
 use Rattle.field.proofs.Addressed.{aside_kept}
 use Rattle.procedure.proofs.Alone.{Harmless}
-use Rattle.procedure.specs.Frames.{uid_bytes, block_bytes, code_for, read_frame}
+use Rattle.procedure.specs.Frames.{uid_bytes, read_frame}
 
 -- a UID is had back from its bytes
 pub uid-back : (u : ℕ) → u < 18446744073709551616 → little (uid_bytes u) ≡ u

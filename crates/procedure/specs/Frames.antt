@@ -1,5 +1,5 @@
 -- The frames that a gate sends: each is for the one tag whose UID it names.
-use Rattle.std.specs.Prelude.{ℕ, ◌+◌, ◌/◌, ◌%◌, Bool, cond, List, [], ◌∷◌, ◌++◌, nat_le}
+use Rattle.std.specs.Prelude.{ℕ, ◌+◌, ◌/◌, ◌%◌, cond, List, [], ◌∷◌, ◌++◌, nat_le}
 
 -- the eight bytes of a UID, least significant first
 abbrev pub uid_bytes : ℕ → List ℕ

@@ -1,5 +1,4 @@
 -- The code's rack, as the list of its tags.
-use Rattle.std.specs.Prelude.{List}
 use Rattle.memory.specs.Model.{Model}
 use Rattle.tag.specs.Means.{tag_of}
 use Rattle.rack.specs.declared.rack.Slot.{Slot}

@@ -1,7 +1,7 @@
 -- The tags of a rack, one after the other. Assumes nothing.
 use Rattle.std.specs.Prelude.{◌≡◌, ℕ, ◌+◌, ◌<◌, ◌≤◌, List, [], ◌∷◌, ◌++◌, map, length, get_or, take, drop, slice_index_or, slice_set, refl}
 use Rattle.std.proofs.Common.{sym, ap, subst, ◌∙◌, add-zero, arith, length-set, take_all, drop-set-lt, get_or-drop, drop-drop}
-use Rattle.std.proofs.lemmas.List.{take_more, take_more_set, drop_more, map_push}
+use Rattle.std.proofs.lemmas.List.{take_more, take_more_set, map_push}
 use Rattle.field.specs.declared.heard.Heard.{Heard}
 use Rattle.field.specs.declared.heard.Heard.TheVariants.{Nothing}
 use Rattle.field.specs.Exchange.{together, Exchange}

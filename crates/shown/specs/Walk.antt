@@ -1,5 +1,5 @@
 -- The walk over a tag's TLVs, to its message.
-use Rattle.std.specs.Prelude.{ℕ, zero, suc, ◌+◌, ◌-◌, ◌*◌, Bool, cond, Ok, Err, Result, ◌==◌, nat_le, nat_lt}
+use Rattle.std.specs.Prelude.{ℕ, zero, suc, ◌+◌, ◌-◌, cond, Ok, Err, Result, ◌==◌, nat_le, nat_lt}
 use Rattle.shown.specs.declared.container.Container.{Container}
 use Rattle.shown.specs.declared.container.Place.{Place}
 use Rattle.shown.specs.declared.flaw.Flaw.{Flaw}

@@ -1,5 +1,5 @@
 -- A message laid into a space, record by record: what is done, and what is to do. Assumes nothing.
-use Rattle.std.proofs.Common.{◌≡◌, ℕ, ◌+◌, ◌≤◌, List, [], ◌∷◌, ◌++◌, length, take, drop, sym, refl, ap, ◌∙◌, subst, arith, length-append, length-drop, length-take-le, take_all, drop-drop, take_at, take-add, drop_at}
+use Rattle.std.proofs.Common.{◌≡◌, ℕ, ◌+◌, ◌≤◌, List, [], ◌++◌, length, take, drop, sym, refl, ap, ◌∙◌, arith, length-append, length-drop, length-take-le, take_all, drop-drop, take_at, take-add, drop_at}
 use Rattle.space.specs.Space.{put, laid}
 
 -- of the message m, the front up to `at` lies over the space, which was s₀ and is s, and `rest` is to do

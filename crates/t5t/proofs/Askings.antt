@@ -1,7 +1,7 @@
 -- Parts of a call that ask for bytes, put together. Assumes nothing.
-use Rattle.std.proofs.Common.{◌≡◌, ℕ, ◌+◌, ◌/◌, ◌%◌, Bool, true, false, cond, List, get_or, IfOk, Some, None, Ok, Err, Option, Result, sym, refl, ap, ◌∙◌, subst, arith}
+use Rattle.std.proofs.Common.{◌≡◌, ℕ, ◌/◌, ◌%◌, Bool, true, false, cond, get_or, IfOk, Some, None, Ok, Err, Option, Result, sym, refl, ◌∙◌, subst}
 use Rattle.memory.specs.BlockLength.{bytes_of}
-use Rattle.procedure.specs.Procedure.{Reply, Procedure, answer, send, bind, Air, Performs}
+use Rattle.procedure.specs.Procedure.{Procedure, answer, send, bind, Air, Performs}
 use Rattle.procedure.proofs.Binds.{performs-none, performs_then}
 use Rattle.shown.specs.declared.flaw.Flaw.{Flaw}
 use Rattle.shown.specs.Asks.{Asks, done, byte, and_then, just_byte}

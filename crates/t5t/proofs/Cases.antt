@@ -1,5 +1,5 @@
 -- Known cases, worked out by the definitions. Assumes nothing.
-use Rattle.std.proofs.Common.{◌≡◌, ℕ, true, false, List, [], ◌∷◌, Some, None, Ok, Err, Option, refl}
+use Rattle.std.proofs.Common.{◌≡◌, ℕ, true, false, List, [], ◌∷◌, Some, None, Ok, Err, refl}
 use Rattle.memory.specs.Model.{Model}
 use Rattle.request.specs.declared.state.State.{State}
 use Rattle.request.specs.declared.state.State.TheVariants.{Ready, Quiet}

@@ -1,11 +1,10 @@
 -- The laws of a detection, from its procedure. Assumes nothing.
-use Rattle.std.proofs.Common.{◌≡◌, ℕ, ◌+◌, ◌<◌, ◌≤◌, ◌⊎◌, List, [], ◌∷◌, ◌++◌, map, length, Ok, Err, Result, sym, refl, ap, ◌∙◌, subst, inl, inr, ⊎_elim, arith}
+use Rattle.std.proofs.Common.{◌≡◌, ℕ, ◌<◌, ◌≤◌, List, [], ◌∷◌, ◌++◌, length, Ok, Err, Result, sym, ap, ◌∙◌, subst, ⊎_elim, arith}
 use Rattle.std.specs.List.{AllByRecursion}
 use Rattle.memory.specs.declared.block_length.BlockLength.{BlockLength}
-use Rattle.memory.specs.BlockLength.{bytes_of}
-use Rattle.memory.specs.Model.{Model, Sound}
+use Rattle.memory.specs.Model.{Sound}
 use Rattle.tag.specs.Means.{longest}
-use Rattle.field.specs.Addressed.{AddressedTo, Aside, Lone}
+use Rattle.field.specs.Addressed.{Lone}
 use Rattle.field.specs.Placed.{Placed, SoundAll}
 use Rattle.procedure.specs.Procedure.{Air, perform, Performs}
 use Rattle.procedure.proofs.Alone.{AsAlone, alone, harmless}
@@ -17,7 +16,7 @@ use Rattle.t5t.specs.declared.detection.NotFound.{NotFound}
 use Rattle.t5t.specs.declared.stop.Stop.{Stop}
 use Rattle.refusal.specs.Cause.{cause_of}
 use Rattle.t5t.specs.Detection.{detection}
-use Rattle.t5t.specs.Detects.{place_of, stop_of, TooShort, Detects}
+use Rattle.t5t.specs.Detects.{place_of, stop_of, Detects}
 use Rattle.t5t.specs.Laws.{standing, Stays, Reachable, with_only, located_in, Told, AsOverOne, sent_of, Truly, DetectionLaws}
 use Rattle.t5t.proofs.Detections.{detection-addressed, detection_harmless, detection-true, detection_complete, Located}
 

@@ -17,7 +17,7 @@ use Rattle.field.specs.Decode.{is_data, is_error}
 use Rattle.field.specs.Exchange.{says, heard_from}
 use Rattle.field.specs.Span.{fallen, answers}
 use Rattle.procedure.specs.Frames.{read_frame}
-use Rattle.procedure.specs.Procedure.{one, reply_of, Procedure, answer, bind, Air, Outcome, perform, Sends}
+use Rattle.procedure.specs.Procedure.{one, reply_of, Procedure, bind, Air, Outcome, perform, Sends}
 use Rattle.procedure.proofs.Alone.{Harmless}
 use Rattle.procedure.proofs.Binds.{perform-bind, sends_bind}
 use Rattle.procedure.proofs.Frames.{read-turn, read-addressed, read_harmless}
@@ -30,7 +30,6 @@ use Rattle.shown.specs.Walk.{walk}
 use Rattle.t5t.proofs.Truths.{Holds, Answered, fallen_by, Lasts, one_tag, one_stays, asking_sends, truth, complete}
 use Rattle.t5t.specs.declared.kept.Kept.{Kept}
 use Rattle.refusal.specs.declared.step.Step.{Step}
-use Rattle.refusal.specs.declared.step.Step.TheVariants as Step
 use Rattle.t5t.specs.declared.stop.Stop.{Stop}
 use Rattle.t5t.specs.Asking.{kept_of, received, flawed, or_stop, asking}
 use Rattle.refusal.specs.Cause.{cause_of}

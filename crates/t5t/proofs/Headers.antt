@@ -1,14 +1,13 @@
 -- The container's header, in the block 0 that is kept. Assumes nothing.
-use Rattle.std.proofs.Common.{◌≡◌, ℕ, ◌/◌, ◌%◌, ◌<◌, ◌≤◌, true, cond, eqb, List, get_or, take, Some, Ok, Err, Result, sym, refl, ap, ◌∙◌, subst, arith, get_or-take}
+use Rattle.std.proofs.Common.{◌≡◌, ℕ, ◌/◌, ◌%◌, ◌<◌, ◌≤◌, List, get_or, take, Some, Ok, Result, sym, refl, ap, ◌∙◌, subst, arith, get_or-take}
 use Rattle.std.proofs.lemmas.Bool.{cond-true, eq-eqb}
 use Rattle.memory.specs.declared.block_length.BlockLength.{BlockLength}
 use Rattle.memory.specs.declared.block_length.BlockLength.TheVariants.{Four, Eight, Sixteen, ThirtyTwo}
 use Rattle.memory.specs.BlockLength.{bytes_of}
-use Rattle.procedure.specs.Procedure.{Procedure, answer, Air, Performs}
+use Rattle.procedure.specs.Procedure.{Air, Performs}
 use Rattle.procedure.proofs.Binds.{performs-none}
-use Rattle.shown.specs.declared.flaw.Flaw.{Flaw}
 use Rattle.shown.specs.declared.header.Header.{Header}
-use Rattle.shown.specs.Asks.{Asks, done, byte, and_then, just_byte}
+use Rattle.shown.specs.Asks.{done, byte, just_byte}
 use Rattle.shown.specs.Container.{checked, header}
 use Rattle.t5t.specs.declared.kept.Kept.{Kept}
 use Rattle.t5t.specs.declared.link.Link.{Link}

@@ -1,9 +1,9 @@
 -- Detection put together from its parts. Assumes nothing.
-use Rattle.std.proofs.Common.{◌≡◌, ℕ, ◌*◌, ◌≤◌, cond, eqb, Some, Ok, Err, Option, Result, sym, refl, ap, ◌∙◌, subst, arith}
+use Rattle.std.proofs.Common.{◌≡◌, ℕ, ◌*◌, ◌≤◌, eqb, Some, Ok, Err, Result, sym, ◌∙◌, subst, arith}
 use Rattle.std.proofs.lemmas.Bool.{cond_both}
 use Rattle.memory.specs.declared.block_length.BlockLength.{BlockLength}
 use Rattle.memory.specs.BlockLength.{bytes_of}
-use Rattle.procedure.specs.Procedure.{Procedure, answer, bind, Air, Performs}
+use Rattle.procedure.specs.Procedure.{Procedure, Air, Performs}
 use Rattle.procedure.proofs.Binds.{performs-none, performs_then}
 use Rattle.shown.specs.declared.container.Container.{Container}
 use Rattle.shown.specs.declared.container.Place.{Place}
@@ -14,7 +14,7 @@ use Rattle.t5t.specs.declared.kept.Kept.{Kept}
 use Rattle.t5t.specs.declared.link.Link.{Link}
 use Rattle.refusal.specs.declared.step.Step.TheVariants as Step
 use Rattle.t5t.specs.declared.stop.Stop.{Stop}
-use Rattle.t5t.specs.Asking.{or_stop, with_kept, asking, kept_after, Asked}
+use Rattle.t5t.specs.Asking.{or_stop, with_kept, asking, Asked}
 use Rattle.t5t.specs.Detection.{first, walking, locating, found, detected, detection, with_unit, FirstRead}
 
 -- block numbers of two bytes reach at least as far as the container may

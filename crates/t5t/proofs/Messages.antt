@@ -25,7 +25,6 @@ use Rattle.t5t.proofs.Detections.{over_and, Leaves, over_parts, then_true, then_
 use Rattle.t5t.proofs.Truths.{Holds, Found, Given, Lasts, one_tag, asking_sends, block_found, block_given}
 use Rattle.t5t.specs.declared.kept.Kept.{Kept}
 use Rattle.refusal.specs.declared.step.Step.{Step}
-use Rattle.refusal.specs.declared.step.Step.TheVariants as Step
 use Rattle.t5t.specs.declared.stop.Stop.{Stop}
 use Rattle.t5t.specs.Asking.{kept_at, or_reads, block_of, asking}
 use Rattle.t5t.specs.Reading.{Break, chunk, chunk_of, or_break, copying, copied, or_broken, reading}

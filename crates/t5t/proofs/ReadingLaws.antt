@@ -1,25 +1,21 @@
 -- The laws of a reading, from its procedure. Assumes nothing.
-use Rattle.std.proofs.Common.{◌≡◌, ℕ, ◌+◌, ◌<◌, ◌≤◌, true, cond, leb, ◌⊎◌, List, [], ◌∷◌, ◌++◌, length, take, drop, Some, None, Ok, Err, Option, Result, sym, refl, ap, ◌∙◌, subst, inl, inr, ⊎_elim, arith, length-drop, length-take-le, take_at}
-use Rattle.std.proofs.lemmas.Bool.{cond-true, cond-false, cases_Bool, leb-true, true≢false}
-use Rattle.memory.specs.Model.{Model, Sound}
-use Rattle.space.specs.Space.{laid}
+use Rattle.std.proofs.Common.{◌≡◌, ℕ, ◌+◌, ◌<◌, ◌≤◌, leb, List, length, take, drop, Some, None, Ok, Err, Option, Result, sym, refl, ap, ◌∙◌, subst, inl, inr, ⊎_elim, arith, length-drop, length-take-le, take_at}
+use Rattle.std.proofs.lemmas.Bool.{cond-true, cond-false, cases_Bool, leb-true}
 use Rattle.tag.specs.Means.{longest}
-use Rattle.field.specs.Addressed.{AddressedTo, Lone}
+use Rattle.field.specs.Addressed.{Lone}
 use Rattle.field.specs.Placed.{Placed, SoundAll}
-use Rattle.procedure.specs.Procedure.{Procedure, Air, perform, Performs}
+use Rattle.procedure.specs.Procedure.{Procedure, Air, perform}
 use Rattle.procedure.proofs.Alone.{AsAlone, alone, harmless}
 use Rattle.shown.specs.declared.container.Place.{Place}
 use Rattle.shown.specs.declared.flaw.Flaw.{Flaw}
 use Rattle.shown.specs.declared.value.Value.{Value}
 use Rattle.shown.specs.Asks.{over}
-use Rattle.shown.specs.Shown.{located, valued, value_in, shown}
-use Rattle.shown.specs.Walk.{length_field}
+use Rattle.shown.specs.Shown.{valued, value_in, shown}
 use Rattle.t5t.specs.declared.reading.NotRead.{NotRead}
 use Rattle.t5t.specs.declared.reading.Received.{Received}
-use Rattle.t5t.specs.Detects.{TooShort, stop_of}
 use Rattle.t5t.specs.Laws.{standing, Stays, Reachable, with_only, located_in, got_in, AsReadOverOne, Shown, Gives, ReadingLaws}
 use Rattle.t5t.specs.Reading.{Break, reading}
-use Rattle.t5t.specs.Reads.{outcome_by, length_of, exchanges_of, Read, Unread, Reads}
+use Rattle.t5t.specs.Reads.{outcome_by, exchanges_of, Read, Reads}
 use Rattle.t5t.proofs.DetectionLaws.{lone_sound}
 use Rattle.t5t.proofs.Messages.{reading-addressed, reading_harmless, reading-true, reading_complete, read-shown, shown_read}
 

@@ -1,5 +1,5 @@
 -- Reading put together from its parts. Assumes nothing.
-use Rattle.std.proofs.Common.{◌≡◌, ℕ, ◌<◌, ◌≤◌, Bool, true, false, cond, eqb, ltb, List, [], length, Ok, Err, Option, Result, sym, refl, ap, ◌∙◌, subst}
+use Rattle.std.proofs.Common.{◌≡◌, ℕ, ◌<◌, ◌≤◌, Bool, cond, ltb, List, [], length, Ok, Err, Result, sym, refl, subst}
 use Rattle.std.proofs.lemmas.Bool.{eq-eqb, ne_eqb, lt-ltb, le-ltb}
 use Rattle.memory.specs.BlockLength.{bytes_of}
 use Rattle.procedure.specs.Procedure.{Procedure, answer, Air, Performs}
@@ -9,12 +9,11 @@ use Rattle.shown.specs.Walk.{length_field}
 use Rattle.refusal.specs.declared.cause.Cause.{Cause}
 use Rattle.refusal.specs.declared.cause.Cause.TheVariants.{Empty, MessageSpaceShort}
 use Rattle.t5t.specs.declared.copying.Broken.{Broken}
-use Rattle.t5t.specs.declared.kept.Kept.{Kept}
 use Rattle.t5t.specs.declared.link.Link.{Link}
 use Rattle.refusal.specs.declared.step.Step.TheVariants as Step
 use Rattle.t5t.specs.declared.stop.Stop.{Stop}
 use Rattle.t5t.specs.Asking.{asking, last_of, Asked}
-use Rattle.t5t.specs.Copied.{got_by, count_by, Copied, read_by, length_by, MessageRead}
+use Rattle.t5t.specs.Copied.{got_by, Copied, MessageRead}
 use Rattle.t5t.specs.Reading.{Break, copying, refused_at, copied, or_broken, reading_from}
 
 module _ (end at : ℕ) (l₀ l₁ : Link) (a₀ a₁ : Air) (s : List ℕ) where

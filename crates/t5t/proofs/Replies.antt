@@ -1,17 +1,12 @@
 -- What was heard, as the reply of a procedure. Assumes nothing.
-use Rattle.std.proofs.Common.{◌≡◌, ℕ, ◌+◌, ◌-◌, ◌≤◌, List, [], ◌∷◌, ◌++◌, map, length, take, drop, Ok, Err, Result, sym, refl, ap, ◌∙◌, subst, arith, length-append, length-take-le, take_at}
-use Rattle.memory.specs.BlockLength.{bytes_of, listed}
+use Rattle.std.proofs.Common.{◌≡◌, ℕ, ◌+◌, ◌-◌, List, [], ◌∷◌, length, drop, sym, refl, ap, ◌∙◌, subst, arith, length-append, length-take-le, take_at}
+use Rattle.memory.specs.BlockLength.{listed}
 use Rattle.t5t.specs.Detection.{or_four, unit_of, unit_by}
 use Rattle.field.specs.declared.heard.Heard.TheVariants.{Nothing, One, Several}
 use Rattle.field.specs.declared.heard.Heard.{Heard}
 use Rattle.field.specs.Exchange.{heard_from, heard_of, laid_all, Exchange}
 use Rattle.field.specs.Placed.{Placed}
-use Rattle.procedure.specs.Frames.{read_frame}
-use Rattle.procedure.specs.Procedure.{Reply, one, reply_of, Procedure, answer, send, Air, stirred, Outcome, perform, Performs}
-use Rattle.t5t.specs.declared.kept.Kept.{Kept}
-use Rattle.refusal.specs.declared.step.Step.{Step}
-use Rattle.t5t.specs.declared.stop.Stop.{Stop}
-use Rattle.t5t.specs.Asking.{replied, received, reads}
+use Rattle.procedure.specs.Procedure.{Reply, one, reply_of, answer, send, Performs}
 use Rattle.t5t.specs.Heard.{reply_by, InSpace}
 
 reply_laid : (hs : List (List ℕ)) (s : List ℕ) → reply_of hs ≡ reply_by (heard_of hs) (laid_all hs s)

@@ -1,5 +1,5 @@
 -- Bytes of a tag had by reading its blocks, the block last read being kept.
-use Rattle.std.specs.Prelude.{◌≡◌, ℕ, ◌/◌, ◌%◌, Bool, true, false, cond, List, drop, replicate, Some, None, Ok, Err, Option, Result, ◌==◌, slice_index}
+use Rattle.std.specs.Prelude.{◌≡◌, ℕ, ◌/◌, ◌%◌, cond, List, drop, replicate, Some, None, Ok, Err, Option, Result, ◌==◌, slice_index}
 use Rattle.space.specs.Space.{laid}
 use Rattle.field.specs.Decode.{is_data, is_error}
 use Rattle.procedure.specs.Frames.{read_frame}

@@ -1,5 +1,5 @@
 -- Detection: block 0, the container, and the walk to the message.
-use Rattle.std.specs.Prelude.{◌≡◌, ℕ, ◌-◌, List, length, Some, Ok, Err, Option, Result}
+use Rattle.std.specs.Prelude.{◌≡◌, ℕ, ◌-◌, length, Some, Ok, Err, Option, Result}
 use Rattle.field.specs.declared.heard.Heard.{Heard}
 use Rattle.field.specs.declared.heard.Heard.TheVariants.{Nothing, One, Several}
 use Rattle.memory.specs.declared.block_length.BlockLength.{BlockLength}

@@ -1,5 +1,5 @@
 -- Reading: the L-field again, and then the value, block by block.
-use Rattle.std.specs.Prelude.{◌≡◌, ℕ, zero, suc, ◌+◌, ◌-◌, ◌/◌, ◌%◌, min, Bool, cond, List, [], ◌++◌, length, take, drop, Some, None, Ok, Err, Option, Result, ◌==◌, nat_lt}
+use Rattle.std.specs.Prelude.{ℕ, zero, suc, ◌+◌, ◌-◌, ◌/◌, ◌%◌, min, cond, List, [], ◌++◌, take, drop, Some, None, Ok, Err, Option, Result, ◌==◌, nat_lt}
 use Rattle.procedure.specs.Procedure.{Procedure, answer, bind}
 use Rattle.shown.specs.declared.value.Value.{Value}
 use Rattle.shown.specs.Walk.{length_field}

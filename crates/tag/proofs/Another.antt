@@ -1,8 +1,8 @@
 -- A frame for another tag. Assumes nothing.
-use Rattle.std.proofs.Common.{◌≡◌, ℕ, Bool, true, false, cond, ◌&&◌, eqb, List, length, sym, refl, ap, ◌∙◌, ⊎_elim}
+use Rattle.std.proofs.Common.{◌≡◌, ℕ, true, eqb, List, length, ap, ◌∙◌, ⊎_elim}
 use Rattle.std.proofs.lemmas.Bool.{cond-true, cond-false, cases_Bool, ne_eqb, and_right}
 use Rattle.request.specs.Frame.{addressed, code_at, intact, uid_at}
-use Rattle.tag.specs.Rules.{Turn, silence, turn}
+use Rattle.tag.specs.Rules.{silence, turn}
 use Rattle.tag.specs.Tag.{TagModel}
 
 -- an addressed frame that selects no one leaves a tag with another UID as it was, and silent

@@ -1,5 +1,5 @@
 -- The loop that reads blocks into an answer. Assumes nothing.
-use Rattle.std.proofs.Common.{◌≡◌, ℕ, zero, suc, ◌+◌, ◌-◌, ◌*◌, ◌<◌, ◌≤◌, Bool, List, [], ◌∷◌, ◌++◌, length, take, drop, set, sym, refl, ap, ◌∙◌, subst, arith, length-drop, length-set, drop-set-lt, set-set}
+use Rattle.std.proofs.Common.{◌≡◌, ℕ, ◌+◌, ◌-◌, ◌<◌, ◌≤◌, Bool, List, [], ◌∷◌, ◌++◌, length, set, sym, refl, ap, ◌∙◌, subst, arith, length-drop, length-set, drop-set-lt, set-set}
 use Rattle.memory.specs.Model.{Model, Sound, count_of}
 use Rattle.space.specs.Space.{laid, put}
 use Rattle.space.proofs.Laying.{Laying, laying_none, laying_more, laying_all, next_fits}

@@ -1,5 +1,5 @@
 -- The first rules, by whom a frame is for. Assumes nothing.
-use Rattle.std.proofs.Common.{◌≡◌, ℕ, Bool, true, false, cond, eqb, List, length, sym, refl, ap, ◌∙◌, subst, ⊎_elim, arith}
+use Rattle.std.proofs.Common.{◌≡◌, ℕ, Bool, true, false, cond, List, length, sym, ap, ◌∙◌, ⊎_elim, arith}
 use Rattle.std.proofs.lemmas.Bool.{cond-true, cond-false, cases_Bool, eq-eqb, ne_eqb}
 use Rattle.request.specs.declared.frame.Frame.{Frame}
 use Rattle.request.specs.declared.frame.Reach.{Reach}
@@ -9,8 +9,8 @@ use Rattle.tag.specs.declared.order.Order.TheVariants.{Nothing}
 use Rattle.request.specs.declared.uid.Uid.{Uid}
 use Rattle.request.specs.Frame.{code_at, optioned, addressed, selective, intact, uid_at, body_of}
 use Rattle.tag.specs.Orders.{Orders, does, heeds_frame}
-use Rattle.request.specs.Parsed.{Parsed, reach_of}
-use Rattle.tag.specs.Rules.{Turn, silence, for_another, deaf, heeds, of_one, of_many, turn}
+use Rattle.request.specs.Parsed.{Parsed}
+use Rattle.tag.specs.Rules.{silence, for_another, deaf, heeds, of_one, of_many, turn}
 use Rattle.tag.specs.Tag.{TagModel}
 
 -- no tag heeds a frame that is not intact

@@ -1,5 +1,5 @@
 -- What a tag is: a memory, a UID, a state and four marks.
-use Rattle.std.specs.Prelude.{ℕ, List}
+use Rattle.std.specs.Prelude.{ℕ}
 use Rattle.memory.specs.Model.{Model}
 use Rattle.request.specs.declared.marks.Marks.{Marks}
 use Rattle.request.specs.declared.state.State.{State}

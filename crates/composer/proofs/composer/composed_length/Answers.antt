@@ -1,4 +1,4 @@
-use Rattle.std.proofs.Common.{◌≡◌, ◌+◌, min, ◌⊎◌, sym, refl, ap, ◌∙◌, subst, inl, inr, ⊎_elim, arith}
+use Rattle.std.proofs.Common.{◌+◌, min, ap, ◌∙◌, inl, inr, ⊎_elim, arith}
 use Rattle.composer.specs.Message.{encoded_length}
 use Rattle.composer.proofs.Composes.{ready, refused_length, composable}
 use Rattle.composer.proofs.Counted.{counted_none, counted_more, counted-bad, all-good, all-counted, counted_refused, counted-answer}

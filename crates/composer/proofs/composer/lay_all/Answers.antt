@@ -1,4 +1,4 @@
-use Rattle.std.proofs.Common.{◌≡◌, sym, ◌∙◌, true≢false, arith}
+use Rattle.std.proofs.Common.{sym, ◌∙◌, true≢false, arith}
 use Rattle.composer.proofs.Composes.{composing_none, here_good, goes, gone, composed-all}
 use Rattle.composer.proofs.composer.lay_all.Goals as goal
 use Rattle.composer.proofs.composer.lay_all.Goals.{in-Some, in_default}

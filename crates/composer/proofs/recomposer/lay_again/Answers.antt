@@ -1,9 +1,9 @@
-use Rattle.std.proofs.Common.{◌≡◌, ◌+◌, ◌<◌, ◌≤◌, eqb, length, Some, None, Ok, Err, sym, refl, ap, ◌∙◌, subst, arith}
+use Rattle.std.proofs.Common.{◌+◌, ◌≤◌, eqb, length, Ok, Err, sym, refl, ap, ◌∙◌, subst, arith}
 use Rattle.composer.specs.Fields.{Brief}
 use Rattle.composer.specs.Message.{encoded, encoded_length}
 use Rattle.space.specs.Space.{put}
-use Rattle.ndef.specs.Reader.{entry_of, Handed, Hands}
-use Rattle.ndef.specs.Reading.{content, fault, over}
+use Rattle.ndef.specs.Reader.{Handed, Hands}
+use Rattle.ndef.specs.Reading.{fault, over}
 use Rattle.composer.proofs.Rebuilt.{some_none}
 use Rattle.composer.proofs.Recomposes.{of_message, moved_on, handed_brief, recomposing_none, next-room, recomposing_more, recomposed-all}
 use Rattle.composer.proofs.recomposer.lay_again.Goals as goal

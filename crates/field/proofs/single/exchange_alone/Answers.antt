@@ -1,4 +1,4 @@
-use Rattle.std.proofs.Common.{◌≡◌, sym, refl, ap}
+use Rattle.std.proofs.Common.{sym, refl, ap}
 use Rattle.field.specs.declared.span.Span.TheVariants.{Endless}
 use Rattle.field.proofs.Exchanges.{slot_answered, heard_by}
 use Rattle.field.proofs.single.exchange_alone.Goals as goal

@@ -1,4 +1,4 @@
-use Rattle.std.proofs.Common.{◌≡◌, ◌<◌, map, sym, subst, arith}
+use Rattle.std.proofs.Common.{◌<◌, map, sym, subst, arith}
 use Rattle.field.specs.declared.heard.Heard.TheVariants.{Nothing}
 use Rattle.field.specs.Exchange.{Exchange}
 use Rattle.pile.specs.Capped.{capped_at}

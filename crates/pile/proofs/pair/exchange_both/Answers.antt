@@ -1,4 +1,4 @@
-use Rattle.std.proofs.Common.{◌≡◌, sym, ap, subst}
+use Rattle.std.proofs.Common.{sym, subst}
 use Rattle.field.specs.Exchange.{Exchange}
 use Rattle.field.proofs.Exchanges.{exchange_both}
 use Rattle.pile.proofs.pair.exchange_both.Goals as goal

@@ -1,4 +1,4 @@
-use Rattle.std.proofs.Common.{◌≡◌, sym, refl, ap}
+use Rattle.std.proofs.Common.{sym, ap}
 use Rattle.field.proofs.Exchanges.{slot_answered, slot_lost, slot_out, heard_by}
 use Rattle.rack.proofs.rack.exchange_slot.Goals as goal
 

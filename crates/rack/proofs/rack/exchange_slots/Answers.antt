@@ -1,4 +1,4 @@
-use Rattle.std.proofs.Common.{◌≡◌, List, ◌++◌, map, length, take, drop, vec_items, sym, ap, ◌∙◌, subst, arith, take_at}
+use Rattle.std.proofs.Common.{◌≡◌, map, length, drop, vec_items, sym, ◌∙◌, subst, take_at}
 use Rattle.field.specs.Exchange.{Exchanged}
 use Rattle.rack.specs.Rack.{placed_of}
 use Rattle.rack.proofs.rack.exchange_slots.Goals as goal

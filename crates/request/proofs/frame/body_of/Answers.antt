@@ -1,4 +1,4 @@
-use Rattle.std.proofs.Common.{◌≡◌, cond, drop, sym, ap, ◌∙◌}
+use Rattle.std.proofs.Common.{cond, drop, ap, ◌∙◌}
 use Rattle.std.proofs.lemmas.List.{take_rest}
 use Rattle.request.proofs.frame.body_of.Goals as goal
 

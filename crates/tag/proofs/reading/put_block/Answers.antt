@@ -1,4 +1,4 @@
-use Rattle.std.proofs.Common.{◌≡◌, ℕ, ◌+◌, ◌≤◌, List, [], ◌∷◌, ◌++◌, length, sym, refl, ap, ◌∙◌, subst, arith}
+use Rattle.std.proofs.Common.{◌+◌, ◌≤◌, [], ◌∷◌, length, sym, ap, ◌∙◌, arith}
 use Rattle.memory.specs.Model.{block_at}
 use Rattle.space.specs.Space.{put}
 use Rattle.space.proofs.Puts.{Laid, behind}

@@ -1,5 +1,4 @@
-use Rattle.std.proofs.Common.{◌≡◌, ◌+◌, ◌-◌, length, take, drop, sym, refl, ap, ◌∙◌, arith, length-drop, length-take-le}
-use Rattle.memory.specs.Model.{block_at}
+use Rattle.std.proofs.Common.{◌≡◌, ◌+◌, ◌-◌, length, take, drop, sym, ap, ◌∙◌, arith, length-drop, length-take-le}
 use Rattle.space.proofs.Puts.{copied}
 use Rattle.tag.proofs.Blocks.{block_long, read-there}
 use Rattle.tag.proofs.reading.put_bytes.Goals as goal

@@ -1,4 +1,4 @@
-use Rattle.std.proofs.Common.{◌≡◌, [], ◌∷◌, refl, ap, ◌∙◌, arith}
+use Rattle.std.proofs.Common.{[], ◌∷◌, refl, ap, ◌∙◌, arith}
 use Rattle.space.specs.Space.{put}
 use Rattle.tag.proofs.Blocks.{put_one}
 use Rattle.tag.proofs.reading.put_lock.Goals as goal

@@ -1,4 +1,4 @@
-use Rattle.std.proofs.Common.{◌≡◌, ◌+◌, ◌≤◌, length, set, sym, refl, ap, ◌∙◌, arith, length-set}
+use Rattle.std.proofs.Common.{◌+◌, ◌≤◌, ◌∙◌, arith, length-set}
 use Rattle.memory.specs.Model.{count_of}
 use Rattle.tag.proofs.Answering.{answering_none, answering_more, answering_room, answering_all, over_first}
 use Rattle.tag.proofs.reading.read_blocks.Goals as goal

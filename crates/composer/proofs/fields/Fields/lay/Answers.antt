@@ -1,4 +1,4 @@
-use Rattle.std.proofs.Common.{◌≡◌, ℕ, ◌+◌, ◌≤◌, List, [], ◌∷◌, length, sym, refl, ap, ◌∙◌, arith}
+use Rattle.std.proofs.Common.{◌+◌, ◌≤◌, [], ◌∷◌, length, ap, ◌∙◌, arith}
 use Rattle.composer.specs.Fields.{content_of}
 use Rattle.composer.specs.Message.{payload_count, id_count}
 use Rattle.space.specs.Space.{put}

@@ -1,4 +1,4 @@
-use Rattle.std.proofs.Common.{◌≡◌, ℕ, ◌+◌, List, [], length, sym, ap, ◌∙◌, add-zero}
+use Rattle.std.proofs.Common.{◌≡◌, ◌+◌, [], length, sym, ap, ◌∙◌, add-zero}
 use Rattle.std.proofs.lemmas.Bool.{cond-false}
 use Rattle.composer.specs.Fields.{content_of}
 use Rattle.composer.specs.Message.{id_count}

@@ -1,4 +1,4 @@
-use Rattle.std.proofs.Common.{◌≡◌, ℕ, ◌<◌, List, map, length, drop, replicate, Ok, Err, vec_len, sym, refl, ap, ◌∙◌, subst, arith, take_at}
+use Rattle.std.proofs.Common.{◌≡◌, ◌<◌, map, length, drop, replicate, Ok, Err, vec_len, sym, refl, ◌∙◌, subst, arith, take_at}
 use Rattle.tag.specs.Means.{longest}
 use Rattle.bench.specs.Bench.{bench_model}
 use Rattle.rack.specs.Rack.{placed_of}

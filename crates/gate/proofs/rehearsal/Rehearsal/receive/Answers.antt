@@ -1,4 +1,4 @@
-use Rattle.std.proofs.Common.{◌≡◌, take, refl, ap, ◌∙◌}
+use Rattle.std.proofs.Common.{take, refl, ap, ◌∙◌}
 use Rattle.gate.proofs.rehearsal.Rehearsal.receive.Goals as goal
 
 pub returns : goal.returns

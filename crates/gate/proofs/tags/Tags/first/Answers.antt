@@ -1,4 +1,4 @@
-use Rattle.std.proofs.Common.{◌≡◌, ◌<◌, ◌≤◌, length, get_or, vec_items, sym, ap, ◌∙◌, zero-add, arith}
+use Rattle.std.proofs.Common.{◌<◌, ◌≤◌, length, get_or, vec_items, sym, ap, ◌∙◌, zero-add, arith}
 use Rattle.gate.proofs.Firsts.{first_more, first_here, first-none}
 use Rattle.gate.proofs.tags.Tags.first.Goals as goal
 

@@ -1,4 +1,4 @@
-use Rattle.std.proofs.Common.{◌≡◌, sym, ◌∙◌}
+use Rattle.std.proofs.Common.{sym, ◌∙◌}
 use Rattle.t5t.proofs.Askings.{had_read}
 use Rattle.t5t.proofs.link.Link.block.Goals as goal
 

@@ -1,4 +1,4 @@
-use Rattle.std.proofs.Common.{◌≡◌, ◌-◌, ◌≤◌, length, take, drop, Ok, sym, refl, ap, ◌∙◌, arith, length-drop, take_all}
+use Rattle.std.proofs.Common.{◌-◌, ◌≤◌, length, take, drop, Ok, sym, refl, ap, ◌∙◌, arith, length-drop, take_all}
 use Rattle.memory.specs.BlockLength.{bytes_of}
 use Rattle.shown.specs.Container.{sized}
 use Rattle.t5t.specs.Asking.{stopped}

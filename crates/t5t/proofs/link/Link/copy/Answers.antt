@@ -1,7 +1,6 @@
-use Rattle.std.proofs.Common.{◌≡◌, ℕ, ◌+◌, ◌-◌, ◌*◌, ◌/◌, ◌%◌, ◌<◌, ◌≤◌, min, List, length, take, drop, sym, refl, ap, ◌∙◌, subst, arith}
+use Rattle.std.proofs.Common.{◌≡◌, ◌+◌, ◌-◌, ◌*◌, ◌/◌, ◌%◌, ◌<◌, min, length, take, drop, sym, ap, ◌∙◌, subst, arith}
 use Rattle.memory.specs.BlockLength.{bytes_of}
 use Rattle.space.specs.Space.{put}
-use Rattle.shown.specs.declared.value.Value.{Value}
 use Rattle.t5t.specs.Reading.{chunk, chunk_of}
 use Rattle.t5t.proofs.Copies.{copying-none, copying-over, copying_broken, copying_on, put_front, block_low, place_low, unit_low}
 use Rattle.t5t.proofs.link.Link.copy.Goals as goal

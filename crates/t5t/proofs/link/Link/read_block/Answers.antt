@@ -1,4 +1,4 @@
-use Rattle.std.proofs.Common.{◌≡◌, Ok, Err, sym, refl, ap, ◌∙◌, arith}
+use Rattle.std.proofs.Common.{Ok, Err, sym, refl, ap, ◌∙◌, arith}
 use Rattle.memory.specs.BlockLength.{bytes_of}
 use Rattle.t5t.specs.Heard.{reply_by}
 use Rattle.t5t.specs.Asking.{replied, received}
