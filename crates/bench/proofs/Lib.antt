@@ -1,1 +1,2 @@
+mod Benches
 mod Puts

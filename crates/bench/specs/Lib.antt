@@ -1,2 +1,2 @@
 pub mod Bench
-pub mod Benches
+pub mod Sound

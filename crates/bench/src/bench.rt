@@ -4,7 +4,7 @@ ghost use Rattle.memory.specs.BlockLength.{bytes_of};
 ghost use Rattle.memory.specs.Model.{count_of, put_at};
 ghost use Rattle.memory.specs.Calls.{TellsLock, Reads, Writes, Locks, after};
 ghost use Rattle.bench.specs.Bench.{bench_of, bench_model};
-ghost use Rattle.bench.specs.Benches.{bench_sound};
+ghost use Rattle.bench.specs.Sound.{bench_sound};
 
 use memory::{BlockLength, Memory, MemoryRefusal};
 

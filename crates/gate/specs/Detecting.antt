@@ -1,5 +1,5 @@
 -- What a detection does with a rehearsal.
-use Rattle.std.specs.Prelude.{◌≡◌, ℕ, List, [], ◌∷◌, ◌++◌, Ok, Err, vec_items, vec_len, Result}
+use Rattle.std.specs.Prelude.{◌≡◌, ℕ, List, [], ◌∷◌, ◌++◌, Ok, Err, vec_len, Result}
 use Rattle.t5t.specs.declared.detection.Found.{Found}
 use Rattle.t5t.specs.declared.detection.NotFound.{NotFound}
 use Rattle.t5t.specs.Detects.{Detects, place_of}
@@ -19,7 +19,7 @@ kept_as k f = record { number = k; unit = (place_of f.session).0; place = (place
 -- a session with what was found stands behind the others; a refusal keeps none
 abbrev pub Finds : Result Found NotFound → Rehearsal → Rehearsal → Answer → Type 0
 Finds (Ok f) old new a =
-    (vec_items new.sessions ≡ vec_items old.sessions ++ session.Detected f.session ∷ []) × (a ≡ answer.SessionKept (kept_as (vec_len old.sessions) f))
+    (new.sessions.items ≡ old.sessions.items ++ session.Detected f.session ∷ []) × (a ≡ answer.SessionKept (kept_as (vec_len old.sessions) f))
 Finds (Err x) old new a = SameSessions old new × (a ≡ answer.Refused (OfDetection x.refusal))
 
 -- over the rack of tags, with an answer space of its own

@@ -1,5 +1,5 @@
 -- How a draft follows another.
-use Rattle.std.specs.Prelude.{◌≡◌, ℕ, ◌<◌, ◌≤◌, vec_items, vec_len, slice_index}
+use Rattle.std.specs.Prelude.{◌≡◌, ℕ, ◌<◌, ◌≤◌, vec_len, slice_index}
 use Rattle.std.specs.Global.{Vec}
 use Rattle.gate.specs.declared.draft.Draft.{Draft}
 
@@ -7,14 +7,14 @@ use Rattle.gate.specs.declared.draft.Draft.{Draft}
 abbrev pub Begins : Vec ℕ → Vec ℕ → Type 0
 Begins old new =
     (vec_len old ≤ vec_len new) ×
-    ((k : ℕ) → k < vec_len old → slice_index (vec_items new) k ≡ slice_index (vec_items old) k)
+    ((k : ℕ) → k < vec_len old → slice_index new.items k ≡ slice_index old.items k)
 
 -- both describe the same records, in the same store
 abbrev pub Same : Draft → Draft → Type 0
 Same old new =
     Begins old.store new.store ×
     (vec_len new.store ≡ vec_len old.store) ×
-    (vec_items new.descriptions ≡ vec_items old.descriptions)
+    (new.descriptions.items ≡ old.descriptions.items)
 
 -- there is nothing to compose
 abbrev pub Empty : Draft → Type 0

@@ -1,5 +1,5 @@
 -- What a reading does with a rehearsal.
-use Rattle.std.specs.Prelude.{◌≡◌, ℕ, ◌<◌, List, take, replicate, Ok, Err, vec_items, vec_len, Result}
+use Rattle.std.specs.Prelude.{◌≡◌, ℕ, ◌<◌, List, take, replicate, Ok, Err, vec_len, Result}
 use Rattle.std.specs.Global.{Vec}
 use Rattle.t5t.specs.declared.reading.NotRead.{NotRead}
 use Rattle.t5t.specs.declared.reading.Received.{Received}
@@ -13,7 +13,7 @@ use Rattle.gate.specs.Sessions.{ReadAt, air_over, fresh_air}
 -- what was read, the front of the message space, is answered, and is the current message; a refusal leaves that as it was
 abbrev pub Receives : Result Received NotRead → List ℕ → Rehearsal → Rehearsal → Answer → Type 0
 Receives (Ok x) left old new a =
-    (v : Vec ℕ) × (vec_items v ≡ take x.length left) × (vec_items new.message ≡ take x.length left) × (a ≡ answer.MessageRead v x.exchanges)
+    (v : Vec ℕ) × (v.items ≡ take x.length left) × (new.message.items ≡ take x.length left) × (a ≡ answer.MessageRead v x.exchanges)
 Receives (Err y) left old new a = (new.message ≡ old.message) × (a ≡ answer.Refused (OfReading y))
 
 -- with the session of that number, over the rack of tags, with an answer space and a message space of its own
@@ -22,7 +22,7 @@ pub record Receiving (k room : ℕ) (old new : Rehearsal) (a : Answer) : Type 0 
   pub result : Result Received NotRead
   pub space : List ℕ
   pub left : List ℕ
-  pub reads : ReadAt (vec_items old.sessions) k (fresh_air old.tags) (air_over new.tags space) (replicate room 0) left result
+  pub reads : ReadAt old.sessions.items k (fresh_air old.tags) (air_over new.tags space) (replicate room 0) left result
   pub receives : Receives result left old new a
   pub sessions : SameSessions old new
   pub draft : new.draft ≡ old.draft

@@ -1,12 +1,12 @@
 -- How a rehearsal follows another.
-use Rattle.std.specs.Prelude.{◌≡◌, vec_items}
+use Rattle.std.specs.Prelude.{◌≡◌}
 use Rattle.gate.specs.declared.rehearsal.Rehearsal.{Rehearsal}
 use Rattle.gate.specs.Drafts.{Same}
 use Rattle.gate.specs.Tagged.{SameTags}
 
 -- both have the same sessions
 abbrev pub SameSessions : Rehearsal → Rehearsal → Type 0
-SameSessions old new = vec_items new.sessions ≡ vec_items old.sessions
+SameSessions old new = new.sessions.items ≡ old.sessions.items
 
 -- both have the same records to compose, the same message, the same tags, and the same sessions
 abbrev pub Unchanged : Rehearsal → Rehearsal → Type 0

@@ -1,5 +1,5 @@
 -- What each command does with the tags, and with the sessions.
-use Rattle.std.specs.Prelude.{◌≡◌, vec_items}
+use Rattle.std.specs.Prelude.{◌≡◌}
 use Rattle.memory.specs.BlockLength.{listed}
 use Rattle.gate.specs.declared.answer.Answer.{Answer}
 use Rattle.gate.specs.declared.answer.Answer.TheVariants.{SpanSet}
@@ -30,8 +30,8 @@ Runs (command.Tag uid unit count marks span) old new a =
 Runs (command.Bytes uid address bytes) old new a = SameSessions old new
 Runs (command.Lock uid block) old new a = SameSessions old new
 Runs (command.Span uid span) old new a =
-    SameSessions old new × (a ≡ SpanSet (record { 0 = uid }) (record { 0 = span })) × (vec_items new.tags.rack.slots ≡ spanned uid.0 span (vec_items old.tags.rack.slots))
-Runs (command.Frame frame) old new a = SameSessions old new × Hearing old.tags new.tags (vec_items frame) a
+    SameSessions old new × (a ≡ SpanSet (record { 0 = uid }) (record { 0 = span })) × (new.tags.rack.slots.items ≡ spanned uid.0 span old.tags.rack.slots.items)
+Runs (command.Frame frame) old new a = SameSessions old new × Hearing old.tags new.tags frame.items a
 Runs (command.Dump uid) old new a = Still old new
 Runs (command.Detect uid) old new a = Detecting uid.0 old new a
 Runs (command.Read session room) old new a = Receiving session room old new a

@@ -1,5 +1,5 @@
 -- The tags of a rehearsal, and how they follow others.
-use Rattle.std.specs.Prelude.{◌≡◌, ℕ, ◌*◌, Bool, cond, not, List, [], ◌∷◌, ◌++◌, map, replicate, vec_items, ◌==◌}
+use Rattle.std.specs.Prelude.{◌≡◌, ℕ, ◌*◌, Bool, cond, not, List, [], ◌∷◌, ◌++◌, map, replicate, ◌==◌}
 use Rattle.std.specs.List.{prefix_len}
 use Rattle.bench.specs.declared.bench.Bench.{Bench}
 use Rattle.bench.specs.Bench.{bench_of, bench_model}
@@ -14,11 +14,11 @@ use Rattle.gate.specs.declared.tags.Tags.{Tags}
 
 -- both have the same tags with the same spans, each as it was
 abbrev pub SameTags : Tags → Tags → Type 0
-SameTags old new = vec_items new.rack.slots ≡ vec_items old.rack.slots
+SameTags old new = new.rack.slots.items ≡ old.rack.slots.items
 
 -- the tags as a field means them, in order
 abbrev pub placed : Tags → List Placed
-placed tags = map (placed_of bench_model) (vec_items tags.rack.slots)
+placed tags = map (placed_of bench_model) tags.rack.slots.items
 
 -- a new tag: n blocks of u bytes, all 00h and open
 abbrev pub blank_tag : ℕ → ℕ → ℕ → Marks → TagModel
@@ -33,7 +33,7 @@ has_uid uid slot = slot.tag.uid.0 == uid
 
 -- where the first tag with that UID stands, or how many tags there are if none has it
 abbrev pub first_with : ℕ → Tags → ℕ
-first_with uid tags = prefix_len (λ slot. not (has_uid uid slot)) (vec_items tags.rack.slots)
+first_with uid tags = prefix_len (λ slot. not (has_uid uid slot)) tags.rack.slots.items
 
 -- the first tag with that UID has the span; all else is as it was
 abbrev pub spanned : ℕ → Span → List (Slot Bench) → List (Slot Bench)

@@ -1,5 +1,5 @@
 -- The type name format (TNF) of a record: the three bits of each, and the lengths that each allows.
-use Rattle.std.specs.Prelude.{Bool, true, false, cond, ◌&&◌, ℕ, eqb}
+use Rattle.std.specs.Prelude.{Bool, true, false, cond, ◌&&◌, ℕ, ◌==◌}
 use Rattle.std.specs.Int.Bits.{bit_and}
 use Rattle.header.specs.declared.format.Format.{Format}
 use Rattle.header.specs.declared.format.Format.TheVariants.{Empty, WellKnown, Media, Uri, External, Unknown, Unchanged, Reserved}
@@ -17,7 +17,7 @@ number Reserved = 7
 
 -- the format whose bits are n
 abbrev pub format_at : ℕ → Format
-format_at n = cond (eqb n 0) Empty (cond (eqb n 1) WellKnown (cond (eqb n 2) Media (cond (eqb n 3) Uri (cond (eqb n 4) External (cond (eqb n 5) Unknown (cond (eqb n 6) Unchanged Reserved))))))
+format_at n = cond (n == 0) Empty (cond (n == 1) WellKnown (cond (n == 2) Media (cond (n == 3) Uri (cond (n == 4) External (cond (n == 5) Unknown (cond (n == 6) Unchanged Reserved))))))
 
 -- the format that a header's first byte names, in its low three bits
 abbrev pub format_of : ℕ → Format
@@ -26,11 +26,11 @@ format_of flags = format_at (bit_and flags 0x07)
 -- which lengths of type, ID and payload a record of each format may have: an empty record has nothing, one of unknown
 -- type has no type, and formats 6 and 7 stand in no whole record
 abbrev pub allows : Format → ℕ → ℕ → ℕ → Bool
-allows Empty kind id payload = eqb kind 0 && eqb id 0 && eqb payload 0
+allows Empty kind id payload = kind == 0 && id == 0 && payload == 0
 allows WellKnown kind id payload = true
 allows Media kind id payload = true
 allows Uri kind id payload = true
 allows External kind id payload = true
-allows Unknown kind id payload = eqb kind 0
+allows Unknown kind id payload = kind == 0
 allows Unchanged kind id payload = false
 allows Reserved kind id payload = false

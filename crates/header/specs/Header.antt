@@ -1,5 +1,5 @@
 -- A record's header: what each bit of its first byte says, and how long its fixed part is.
-use Rattle.std.specs.Prelude.{Bool, cond, not, ℕ, ◌+◌, eqb}
+use Rattle.std.specs.Prelude.{Bool, cond, not, ℕ, ◌+◌, ◌==◌}
 use Rattle.std.specs.Int.Bits.{bit_and}
 
 -- MB: the first record of its message
@@ -24,7 +24,7 @@ il = 0x08
 
 -- that bit of the first byte is set
 abbrev pub has : ℕ → ℕ → Bool
-has bit flags = not (eqb (bit_and flags bit) 0)
+has bit flags = not (bit_and flags bit == 0)
 
 -- the length of the fixed part: flags, type length, payload length, and the ID length where there is one
 abbrev pub fixed : ℕ → ℕ

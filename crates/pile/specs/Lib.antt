@@ -1,2 +1,2 @@
 pub mod Capped
-pub mod Fades
+pub mod Sound

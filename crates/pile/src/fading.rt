@@ -2,7 +2,7 @@
 ghost use Rattle.std.specs.Prelude.{map};
 ghost use Rattle.field.specs.Exchange.{Exchanged};
 ghost use Rattle.pile.specs.Capped.{capped_at};
-ghost use Rattle.pile.specs.Fades.{sound-capped};
+ghost use Rattle.pile.specs.Sound.{sound-capped};
 
 use field::{Field, Heard};
 use tag::{LONGEST_ANSWER, TagRefusal};

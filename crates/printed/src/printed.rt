@@ -4,7 +4,7 @@ ghost use Rattle.memory.specs.BlockLength.{bytes_of};
 ghost use Rattle.memory.specs.Model.{count_of};
 ghost use Rattle.memory.specs.Calls.{TellsLock, Reads, Writes, Locks};
 ghost use Rattle.printed.specs.Printed.{printed_of};
-ghost use Rattle.printed.specs.Prints.{printed_sound};
+ghost use Rattle.printed.specs.Sound.{printed_sound};
 
 use memory::{BlockLength, Memory, MemoryRefusal};
 

@@ -1,2 +1,2 @@
 pub mod Rack
-pub mod Racks
+pub mod Sound

@@ -2,7 +2,7 @@
 ghost use Rattle.std.specs.Prelude.{List, [], ◌∷◌, map};
 ghost use Rattle.field.specs.Exchange.{Exchanged};
 ghost use Rattle.rack.specs.Rack.{placed_of};
-ghost use Rattle.rack.specs.Racks.{sound-all};
+ghost use Rattle.rack.specs.Sound.{sound-all};
 
 use field::{Field, Heard, Span};
 use memory::Memory;

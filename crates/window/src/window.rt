@@ -3,7 +3,7 @@ ghost use Rattle.std.specs.Prelude.{◌≡◌, ◌+◌};
 ghost use Rattle.memory.specs.Model.{count_of, with_block, with_lock};
 ghost use Rattle.memory.specs.Calls.{TellsLock, Reads, Writes, Locks, after};
 ghost use Rattle.window.specs.Window.{window_of};
-ghost use Rattle.window.specs.Windows.{window_sound};
+ghost use Rattle.window.specs.Sound.{window_sound};
 
 use memory::{BlockLength, Memory, MemoryRefusal};
 

@@ -1,5 +1,5 @@
 use Rattle.memory.specs.BlockLength.{bytes_of}
-use Rattle.bench.specs.Benches.{bench_count}
+use Rattle.bench.specs.Sound.{bench_count}
 use Rattle.bench.proofs.bench.blocks.Goals as goal
 
 pub returns : goal.returns

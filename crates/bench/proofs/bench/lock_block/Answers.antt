@@ -3,7 +3,7 @@ use Rattle.std.proofs.lemmas.List.{get_or_read}
 use Rattle.memory.specs.BlockLength.{bytes_of}
 use Rattle.memory.specs.Model.{count_of}
 use Rattle.bench.specs.Bench.{bench_of}
-use Rattle.bench.specs.Benches.{lock_there, bench_locks, bench_locks_not}
+use Rattle.bench.proofs.Benches.{lock_there, bench_locks, bench_locks_not}
 use Rattle.bench.proofs.bench.lock_block.Goals as goal
 
 pub index-requires : goal.index-requires

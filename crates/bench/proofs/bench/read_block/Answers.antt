@@ -1,6 +1,6 @@
 use Rattle.std.proofs.Common.{◌*◌, length, take, drop, ap, ◌∙◌, arith}
 use Rattle.memory.specs.BlockLength.{bytes_of}
-use Rattle.bench.specs.Benches.{block_there, bench_reads}
+use Rattle.bench.proofs.Benches.{block_there, bench_reads}
 use Rattle.bench.proofs.bench.read_block.Goals as goal
 
 pub copy_out-requires : goal.copy_out-requires

@@ -1,6 +1,6 @@
 use Rattle.std.proofs.Common.{arith}
 use Rattle.memory.specs.BlockLength.{bytes_of}
-use Rattle.bench.specs.Benches.{lock_there, bench_tells}
+use Rattle.bench.proofs.Benches.{lock_there, bench_tells}
 use Rattle.bench.proofs.bench.tell_lock.Goals as goal
 
 pub bounds-locks-block : goal.bounds-locks-block

@@ -2,7 +2,7 @@ use Rattle.std.proofs.Common.{◌≡◌, ◌*◌, refl, ap, ◌∙◌, arith}
 use Rattle.memory.specs.BlockLength.{bytes_of}
 use Rattle.memory.specs.Model.{count_of, put_at}
 use Rattle.bench.specs.Bench.{bench_of}
-use Rattle.bench.specs.Benches.{block_there, lock_there, bench_writes, bench_writes_not}
+use Rattle.bench.proofs.Benches.{block_there, lock_there, bench_writes, bench_writes_not}
 use Rattle.bench.proofs.bench.write_block.Goals as goal
 
 pub bounds-locks-block : goal.bounds-locks-block

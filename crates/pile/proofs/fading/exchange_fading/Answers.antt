@@ -2,7 +2,7 @@ use Rattle.std.proofs.Common.{◌<◌, map, sym, subst, arith}
 use Rattle.field.specs.declared.heard.Heard.TheVariants.{Nothing}
 use Rattle.field.specs.Exchange.{Exchange}
 use Rattle.pile.specs.Capped.{capped_at}
-use Rattle.pile.specs.Fades.{fade_none, fade_lost, fade_on}
+use Rattle.pile.proofs.Fades.{fade_none, fade_lost, fade_on}
 use Rattle.pile.proofs.fading.exchange_fading.Goals as goal
 
 pub returns-in-0 : goal.returns-in-0

@@ -1,5 +1,5 @@
 use Rattle.memory.specs.BlockLength.{bytes_of}
-use Rattle.printed.specs.Prints.{printed_count_lem}
+use Rattle.printed.specs.Sound.{printed_count_lem}
 use Rattle.printed.proofs.printed.blocks.Goals as goal
 
 pub returns : goal.returns

@@ -1,6 +1,6 @@
 use Rattle.std.proofs.Common.{◌*◌, length, take, drop, ap, ◌∙◌, arith}
 use Rattle.memory.specs.BlockLength.{bytes_of}
-use Rattle.printed.specs.Prints.{printed_block_within, printed_reads}
+use Rattle.printed.proofs.Prints.{printed_block_within, printed_reads}
 use Rattle.printed.proofs.printed.read_block.Goals as goal
 
 pub copy_out-requires : goal.copy_out-requires

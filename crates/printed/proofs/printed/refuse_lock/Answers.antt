@@ -1,6 +1,6 @@
 use Rattle.std.proofs.Common.{arith}
 use Rattle.memory.specs.BlockLength.{bytes_of}
-use Rattle.printed.specs.Prints.{printed_locks}
+use Rattle.printed.proofs.Prints.{printed_locks}
 use Rattle.printed.proofs.printed.refuse_lock.Goals as goal
 
 pub returns : goal.returns

@@ -1,6 +1,6 @@
 use Rattle.std.proofs.Common.{arith}
 use Rattle.memory.specs.BlockLength.{bytes_of}
-use Rattle.printed.specs.Prints.{printed_writes}
+use Rattle.printed.proofs.Prints.{printed_writes}
 use Rattle.printed.proofs.printed.refuse_write.Goals as goal
 
 pub returns : goal.returns

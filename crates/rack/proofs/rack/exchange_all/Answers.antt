@@ -1,6 +1,6 @@
 use Rattle.std.proofs.Common.{get_or, ap, arith}
 use Rattle.rack.specs.Rack.{placed_of}
-use Rattle.rack.specs.Racks.{heard-none, heard_more, heard_all}
+use Rattle.rack.proofs.Racks.{heard-none, heard_more, heard_all}
 use Rattle.rack.proofs.rack.exchange_all.Goals as goal
 
 pub loop-slot-init : goal.loop-slot-init

@@ -1,4 +1,4 @@
-use Rattle.window.specs.Windows.{window_count}
+use Rattle.window.specs.Sound.{window_count}
 use Rattle.window.proofs.window.blocks_shown.Goals as goal
 
 pub returns : goal.returns

@@ -1,5 +1,5 @@
 use Rattle.std.proofs.Common.{arith}
-use Rattle.window.specs.Windows.{below_few, window_tells, never_untold}
+use Rattle.window.proofs.Windows.{below_few, window_tells, never_untold}
 use Rattle.window.proofs.window.tell_shown.Goals as goal
 
 pub overflow_add-first : goal.overflow_add-first

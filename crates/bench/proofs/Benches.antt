@@ -1,25 +1,15 @@
 -- Facts on the memory over two buffers, for any block length. Assumes nothing.
 use Rattle.std.specs.Prelude.{◌≡◌, ℕ, ◌+◌, ◌*◌, ◌/◌, ◌<◌, ◌≤◌, min, true, false, List, map, length, take, drop, set, Ok, Err, slice_index, slice_index_or, slice_set, refl}
-use Rattle.std.proofs.Common.{sym, ap, ◌∙◌, zero-add, arith, length-take, get_or-take, length-take-le}
-use Rattle.std.proofs.lemmas.List.{get_or-map, map-set, length-set, length-map}
-use Rattle.memory.specs.BlockLength.{bytes_of}
-use Rattle.memory.specs.declared.block_length.BlockLength.{BlockLength}
-use Rattle.memory.specs.Model.{Sound, count_of, block_at, lock_at, put_at, with_block, with_lock}
+use Rattle.std.proofs.Common.{sym, ap, ◌∙◌, zero-add, arith, length-take, get_or-take}
+use Rattle.std.proofs.lemmas.List.{get_or-map, map-set, length-set}
+use Rattle.memory.specs.Model.{count_of, block_at, lock_at, put_at, with_block, with_lock}
 use Rattle.memory.specs.Calls.{TellsLock, Reads, Writes, Locks}
 use Rattle.bench.specs.Bench.{shut, covered, bench_of}
 use Rattle.std.proofs.lemmas.Bool.{ne_eqb, not_from_false, eq-eqb, not_from_true}
 use Rattle.memory.specs.declared.refusal.MemoryRefusal.TheVariants.{Locked}
 use Rattle.memory.proofs.Passes.{passes_space, passes_present, passes_unlocked, meets_locked}
-use Rattle.memory.proofs.Stretches.{block_within, whole_within, read_within, set_within, put_within, length-put}
-use Rattle.memory.proofs.Units.{unit-listed}
-
-module _ (u : ℕ) (bytes locks : List ℕ) where
-  -- the blocks lie within the bytes
-  pub bench_within : covered u bytes locks * u ≤ length bytes
-  bench_within = whole_within (covered u bytes locks) u (length bytes) (omega arith)
-
-  pub bench_count : count_of (bench_of u bytes locks) ≡ covered u bytes locks
-  bench_count = simp (length-map, length-take) (omega arith)
+use Rattle.memory.proofs.Stretches.{block_within, read_within, set_within, put_within, length-put}
+use Rattle.bench.specs.Sound.{bench_within, bench_count}
 
 module _ (u : ℕ) (bytes locks : List ℕ) (n : ℕ) (there : n < covered u bytes locks) where
   -- block n lies within the bytes
@@ -59,16 +49,6 @@ module _ (u : ℕ) (bytes locks : List ℕ) (n : ℕ) (there : n < covered u byt
       ap (λ at. map shut (take k (slice_set locks at 1))) (sym (zero-add n)) ∙ ap (map shut) (set_within locks 0 k n 1 there) ∙ map-set shut (take k locks) n 1
       in
       ap (λ c. record { unit = u; bytes = take (c * u) bytes; locks = map shut (take c (slice_set locks n 1)) }) count ∙ ap (λ ls. record { unit = u; bytes = take (k * u) bytes; locks = ls }) same
-
-pub bench_sound : (l : BlockLength) (bytes locks : List ℕ) → Sound (bench_of (bytes_of l) bytes locks)
-bench_sound l bytes locks =
-    let u = bytes_of l in
-    let n : count_of (bench_of u bytes locks) ≡ covered u bytes locks = bench_count u bytes locks in
-    record {
-      unit = unit-listed l;
-      few = omega arith;
-      whole = length-take-le (covered u bytes locks * u) bytes (bench_within u bytes locks) ∙ ap (λ k. k * u) (sym n);
-    }
 
 -- block n is there
 module _ (u : ℕ) (bytes locks : List ℕ) (n : ℕ) (there : n < count_of (bench_of u bytes locks)) where

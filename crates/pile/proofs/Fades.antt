@@ -10,7 +10,7 @@ use Rattle.field.specs.declared.heard.Heard.TheVariants.{Nothing}
 use Rattle.field.specs.declared.span.Span.{Span}
 use Rattle.field.specs.declared.span.Span.TheVariants.{Endless, Left}
 use Rattle.field.specs.Exchange.{hears, says, heard_from, laid_all, heard_of, Exchange}
-use Rattle.field.specs.Placed.{Placed, SoundAll}
+use Rattle.field.specs.Placed.{Placed}
 use Rattle.field.specs.Span.{fallen, reaches, answers}
 use Rattle.pile.specs.Capped.{capped, capped_at}
 
@@ -100,7 +100,3 @@ fade_on {ts} {ts'} {f} {s} {s'} {h} n more x =
       heard = x.heard ∙ ap heard_of same;
       left = x.left ∙ ap (λ l. laid_all l s) same;
     }
-
-pub sound-capped : (s : ℕ) (ts : List Placed) → SoundAll ts → SoundAll (map (capped_at s) ts)
-sound-capped s [] x = tt
-sound-capped s (t ∷ ts) x = (x.0, sound-capped s ts x.1)

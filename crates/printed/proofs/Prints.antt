@@ -1,34 +1,14 @@
 -- Facts on the memory over an image, for any block length. Assumes nothing.
 use Rattle.std.specs.Prelude.{◌≡◌, ℕ, ◌+◌, ◌*◌, ◌<◌, ◌≤◌, true, false, List, length, take, drop, Ok, Err, refl}
-use Rattle.std.proofs.Common.{sym, ap, ◌∙◌, zero-add, arith, length-take-le}
-use Rattle.std.proofs.lemmas.List.{length-replicate, get_or-replicate}
-use Rattle.memory.specs.declared.block_length.BlockLength.{BlockLength}
+use Rattle.std.proofs.Common.{sym, ap, ◌∙◌, zero-add, arith}
+use Rattle.std.proofs.lemmas.List.{get_or-replicate}
 use Rattle.memory.specs.declared.refusal.MemoryRefusal.TheVariants.{Locked}
-use Rattle.memory.specs.BlockLength.{bytes_of}
 use Rattle.memory.specs.Calls.{TellsLock, Reads, Writes, Locks}
-use Rattle.memory.specs.Model.{Sound, count_of, block_at, lock_at}
+use Rattle.memory.specs.Model.{count_of, block_at, lock_at}
 use Rattle.printed.specs.Printed.{printed_count, printed_of}
-use Rattle.memory.proofs.Units.{unit-listed}
 use Rattle.memory.proofs.Passes.{passes_space, passes_present, meets_locked}
-use Rattle.memory.proofs.Stretches.{block_within, whole_within, read_within}
-
-module _ (u : ℕ) (bytes : List ℕ) where
-  -- the blocks lie within the bytes
-  printed_within : printed_count u bytes * u ≤ length bytes
-  printed_within = whole_within (printed_count u bytes) u (length bytes) (omega arith)
-
-  pub printed_count_lem : count_of (printed_of u bytes) ≡ printed_count u bytes
-  printed_count_lem = length-replicate (printed_count u bytes) true
-
-pub printed_sound : (l : BlockLength) (bytes : List ℕ) → Sound (printed_of (bytes_of l) bytes)
-printed_sound l bytes =
-    let u = bytes_of l in
-    let n : count_of (printed_of u bytes) ≡ printed_count u bytes = printed_count_lem u bytes in
-    record {
-      unit = unit-listed l;
-      few = omega arith;
-      whole = length-take-le (printed_count u bytes * u) bytes (printed_within u bytes) ∙ ap (λ k. k * u) (sym n);
-    }
+use Rattle.memory.proofs.Stretches.{block_within, read_within}
+use Rattle.printed.specs.Sound.{printed_within, printed_count_lem}
 
 -- block n is there
 module _ (u : ℕ) (bytes : List ℕ) (n : ℕ) (there : n < count_of (printed_of u bytes)) where

@@ -5,20 +5,19 @@ use Rattle.std.proofs.lemmas.List.{take_more, take_more_set, map_push}
 use Rattle.field.specs.declared.heard.Heard.{Heard}
 use Rattle.field.specs.declared.heard.Heard.TheVariants.{Nothing}
 use Rattle.field.specs.Exchange.{together, Exchange}
-use Rattle.memory.specs.Model.{Sound}
-use Rattle.field.specs.Placed.{Placed, SoundAll}
+use Rattle.field.specs.Placed.{Placed}
 use Rattle.field.proofs.Exchanges.{exchange_both, exchange_none}
 
 -- of the slots, which were xs and are ys, the first i have heard the frame
-pub record Heard-by {S : Type 0} (placed : S → Placed) (xs ys : List S) (f s₀ s : List ℕ) (h : Heard) (i : ℕ) : Type 0 where
+pub record HeardBy {S : Type 0} (placed : S → Placed) (xs ys : List S) (f s₀ s : List ℕ) (h : Heard) (i : ℕ) : Type 0 where
   pub so_far : Exchange (map placed (take i xs)) (map placed (take i ys)) f s₀ s h
   pub rest : drop i ys ≡ drop i xs
   pub long : length ys ≡ length xs
 
-pub heard-none : {S : Type 0} (placed : S → Placed) (xs : List S) (f s : List ℕ) → Heard-by placed xs xs f s s Nothing 0
+pub heard-none : {S : Type 0} (placed : S → Placed) (xs : List S) (f s : List ℕ) → HeardBy placed xs xs f s s Nothing 0
 heard-none placed xs f s = record { so_far = exchange_none f s; rest = refl; long = refl }
 
-pub heard_more : {S : Type 0} (placed : S → Placed) (xs ys : List S) (f s₀ s s' : List ℕ) (h h' h'' : Heard) (i : ℕ) (old x : S) → Heard-by placed xs ys f s₀ s h i → i < length ys → old ≡ slice_index_or ys i old → Exchange (placed old ∷ []) (placed x ∷ []) f s s' h' → h'' ≡ together h h' → Heard-by placed xs (slice_set ys i x) f s₀ s' h'' (i + 1)
+pub heard_more : {S : Type 0} (placed : S → Placed) (xs ys : List S) (f s₀ s s' : List ℕ) (h h' h'' : Heard) (i : ℕ) (old x : S) → HeardBy placed xs ys f s₀ s h i → i < length ys → old ≡ slice_index_or ys i old → Exchange (placed old ∷ []) (placed x ∷ []) f s s' h' → h'' ≡ together h h' → HeardBy placed xs (slice_set ys i x) f s₀ s' h'' (i + 1)
 heard_more placed xs ys f s₀ s s' h h' h'' i old x was lt is one_more eh =
     let long = was.long in
     let same : get_or xs i old ≡ old = ap (λ n. get_or xs n old) (sym (add-zero i)) ∙ sym (get_or-drop i xs 0 old) ∙ ap (λ l. get_or l 0 old) (sym was.rest) ∙ get_or-drop i ys 0 old ∙ ap (λ n. get_or ys n old) (add-zero i) ∙ sym is in
@@ -34,13 +33,9 @@ heard_more placed xs ys f s₀ s s' h h' h'' i old x was lt is one_more eh =
       long = length-set ys i x ∙ long;
     }
 
-pub heard_all : {S : Type 0} (placed : S → Placed) (xs ys : List S) (f s₀ s : List ℕ) (h : Heard) (i : ℕ) → Heard-by placed xs ys f s₀ s h i → length ys ≤ i → Exchange (map placed xs) (map placed ys) f s₀ s h
+pub heard_all : {S : Type 0} (placed : S → Placed) (xs ys : List S) (f s₀ s : List ℕ) (h : Heard) (i : ℕ) → HeardBy placed xs ys f s₀ s h i → length ys ≤ i → Exchange (map placed xs) (map placed ys) f s₀ s h
 heard_all placed xs ys f s₀ s h i was over =
     let long = was.long in
     let a = take_all i xs (omega arith) in
     let b = take_all i ys over in
     subst (λ l. Exchange (map placed l) (map placed ys) f s₀ s h) a (subst (λ l. Exchange (map placed (take i xs)) (map placed l) f s₀ s h) b was.so_far)
-
-pub sound-all : {S : Type 0} (placed : S → Placed) → ((x : S) → Sound (placed x).tag.memory) → (xs : List S) → SoundAll (map placed xs)
-sound-all placed sound [] = tt
-sound-all placed sound (x ∷ xs) = (sound x, sound-all placed sound xs)
