@@ -29,7 +29,7 @@ use Rattle.composer.proofs.Rebuilt.{none_at_end, some_none, bytes_drop, rebuilds
 -- ---- one record
 
 -- a listing that goes on has a good record there
-record Goes_on (m : List ℕ) (p : ℕ) (e : Entry) : Type 0 where
+record GoesOn (m : List ℕ) (p : ℕ) (e : Entry) : Type 0 where
   good : good_at m p ≡ true
   entry : e ≡ entry_at m p
 
@@ -43,7 +43,7 @@ first_of e ended = e
 first_of e (bad p) = e
 first_of e (one e' l) = e'
 
-goes_on : (m : List ℕ) (p : ℕ) (e : Entry) (l : Listing) → p ≤ length m → left m p ≡ one e l → Goes_on m p e
+goes_on : (m : List ℕ) (p : ℕ) (e : Entry) (l : Listing) → p ≤ length m → left m p ≡ one e l → GoesOn m p e
 unfolding is_one first_of
 goes_on m p e l h same =
     ⊎_elim (λ o. absurd (let z = ap is_one (sym (left_over m p o) ∙ same) in omega arith))

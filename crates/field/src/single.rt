@@ -2,7 +2,6 @@
 ghost use Rattle.tag.specs.Means.{tag_of};
 ghost use Rattle.field.specs.Exchange.{Exchanged};
 ghost use Rattle.field.specs.Placed.{for_good};
-ghost use Rattle.std.proofs.Common.{rules};
 
 use crate::field::Field;
 use crate::heard::Heard;
@@ -26,7 +25,7 @@ fn exchange_alone<M: Memory>(
 impl<M: Memory> Field for Tag<M> {
     ghost tags = { λ t. for_good (tag_of M.Memory.model t) };
 
-    ghost sound = { Prim.search rules };
+    ghost sound = { λ t. (M.Memory.sound t.memory, tt) };
 
     fn exchange(&mut self, frame: &[u8], space: &mut [u8]) -> Result<Heard, TagRefusal> {
         exchange_alone(self, frame, space)

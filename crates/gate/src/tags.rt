@@ -1,5 +1,5 @@
 // The tags of a rehearsal, in the order in which they were put there.
-ghost use Rattle.std.specs.Prelude.{◌≡◌, ◌<◌, vec_len, MatchResult, OnErr};
+ghost use Rattle.std.specs.Prelude.{◌≡◌, ◌+◌, ◌<◌, vec_len, MatchResult, OnErr};
 ghost use Rattle.field.specs.Exchange.{Exchanged};
 ghost use Rattle.gate.specs.Sessions.{ReadsWith, air_over};
 ghost use Rattle.t5t.specs.Detects.{Detects};
@@ -44,7 +44,8 @@ impl Tags {
         marks: Marks,
         span: Span,
     ) -> Result<(), LineError>
-        ensures { MatchResult result (λ _. WithNew (record { tag = blank_tag uid.0 (bytes_of unit) count marks; span = span }) self.old self.new) (λ _. SameTags self.old self.new) }
+        ensures count { MatchResult result (λ _. vec_len self.new.rack.slots ≡ vec_len self.old.rack.slots + 1) (λ _. SameTags self.old self.new) }
+        ensures added { MatchResult result (λ _. WithNew (record { tag = blank_tag uid.0 (bytes_of unit) count marks; span = span }) self.old self.new) (λ _. SameTags self.old self.new) }
     {
         let memory = prepared::blank(self.heap, unit, count)?;
         let tag = Tag::new(memory, uid, marks);
@@ -109,7 +110,8 @@ impl Tags {
 
     // Lets each tag in reach hear the frame; a single answer lies in the front of the space.
     pub fn hear(&mut self, frame: &[u8], space: &mut [u8]) -> Result<Heard, TagRefusal>
-        ensures { Exchanged (placed self.old) (placed self.new) frame.now space.old space.new result }
+        ensures count { vec_len self.new.rack.slots ≡ vec_len self.old.rack.slots }
+        ensures exchanged { Exchanged (placed self.old) (placed self.new) frame.now space.old space.new result }
     {
         self.rack.exchange(frame, space)
     }

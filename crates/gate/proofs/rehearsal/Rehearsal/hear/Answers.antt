@@ -7,7 +7,7 @@ use Rattle.gate.proofs.rehearsal.Rehearsal.hear.Goals as goal
 
 pub returns-in-Ok : goal.returns-in-Ok
 returns-in-Ok c =
-    let sent = c.in-Ok.ensures.1 in
+    let sent = c.in-Ok.ensures.exchanged.1 in
     let space = c.in_ok-space.space in
     let last = c.hear.new.space in
     let long : length last ≡ space.len = c.hear.auto.space ∙ c.as_mut_slice.ensures.len in

@@ -9,8 +9,8 @@ use Rattle.field.specs.Placed.{Placed}
 use Rattle.rack.specs.Rack.{placed_of}
 use Rattle.gate.proofs.tags.Tags.add.Goals as goal
 
-pub returns : goal.returns
-returns c =
+pub returns-clause-added : goal.returns-clause-added
+returns-clause-added c =
     let blank = c.in_ok-memory.ensures in
     let unit-is = blank.0 in
     let bytes-are = blank.1 in
