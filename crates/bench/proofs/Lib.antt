@@ -1,2 +1,2 @@
-mod Benches
-mod Puts
+pub mod Benches
+pub mod Puts

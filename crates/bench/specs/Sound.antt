@@ -14,6 +14,7 @@ module _ (u : ℕ) (bytes locks : List ℕ) where
   pub bench_within : covered u bytes locks * u ≤ length bytes
   bench_within = whole_within (covered u bytes locks) u (length bytes) (omega arith)
 
+  -- how many blocks it has
   pub bench_count : count_of (bench_of u bytes locks) ≡ covered u bytes locks
   bench_count = simp (length-map, length-take) (omega arith)
 

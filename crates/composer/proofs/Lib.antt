@@ -1,10 +1,10 @@
-mod Amounts
-mod Composes
-mod Counted
-mod Described
-mod Encoded
-mod Fitted
-mod Flags
-mod ReadBack
-mod Rebuilt
-mod Recomposes
+pub mod Amounts
+pub mod Composes
+pub mod Counted
+pub mod Described
+pub mod Encoded
+pub mod Fitted
+pub mod Flags
+pub mod ReadBack
+pub mod Rebuilt
+pub mod Recomposes

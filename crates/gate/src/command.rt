@@ -228,13 +228,17 @@ fn marks_and_span(words: &mut Words) -> Result<(Marks, Span), LineError> {
         lockable: false,
         special: false,
     };
-    // There are four marks, each at most once, and then the span.
-    for _ in 0..=4 {
-        match words.next_word() {
-            Some(b"span") => return Ok((marks, span::read(words.needed()?)?)),
+    // There are four marks, each at most once.
+    for _ in 0..4 {
+        match words.peek() {
+            None | Some(b"span") => break,
             Some(word) => set_mark(&mut marks, word)?,
-            None => break,
         }
+        let _ = words.next_word();
+    }
+    if let Some(b"span") = words.peek() {
+        let _ = words.next_word();
+        return Ok((marks, span::read(words.needed()?)?));
     }
     Ok((marks, Span::Endless))
 }

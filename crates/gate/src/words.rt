@@ -33,6 +33,12 @@ impl<'a> Words<'a> {
         Some(&rest[0..end])
     }
 
+    // The next word, which stays.
+    pub fn peek(&self) -> Option<&'a [u8]> {
+        let rest = self.rest?;
+        Some(&rest[0..word_end(rest)])
+    }
+
     // The next word, which the command cannot do without.
     pub fn needed(&mut self) -> Result<&'a [u8], LineError> {
         self.next_word().ok_or(LineError::MissingWord)

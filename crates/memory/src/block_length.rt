@@ -36,6 +36,7 @@ impl BlockLength {
             BlockLength::ThirtyTwo => 32,
         }
     }
+
     // How many whole blocks so many bytes have, and at most so many.
     pub fn whole_blocks(self, bytes: usize, most: u32) -> u32
         ensures { result ≡ whole_blocks (bytes_of self) bytes most }

@@ -1,1 +1,1 @@
-mod Fades
+pub mod Fades

@@ -1,1 +1,1 @@
-mod Prints
+pub mod Prints

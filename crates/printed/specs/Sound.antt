@@ -14,6 +14,7 @@ module _ (u : ℕ) (bytes : List ℕ) where
   pub printed_within : printed_count u bytes * u ≤ length bytes
   printed_within = whole_within (printed_count u bytes) u (length bytes) (omega arith)
 
+  -- how many blocks it has
   pub printed_count_lem : count_of (printed_of u bytes) ≡ printed_count u bytes
   printed_count_lem = length-replicate (printed_count u bytes) true
 

@@ -1,1 +1,1 @@
-mod Racks
+pub mod Racks

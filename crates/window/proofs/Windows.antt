@@ -1,5 +1,5 @@
 -- Facts on a window, from what the memory below means alone, for any block length. Assumes nothing.
-use Rattle.std.specs.Prelude.{◌≡◌, ℕ, ◌+◌, ◌-◌, ◌*◌, ◌<◌, min, Bool, true, false, List, length, take, drop, Ok, Err, slice_set}
+use Rattle.std.specs.Prelude.{◌≡◌, ℕ, ◌+◌, ◌-◌, ◌*◌, ◌<◌, ◌≤◌, min, Bool, true, false, List, length, take, drop, Ok, Err, slice_set}
 use Rattle.std.proofs.Common.{sym, ap, ◌∙◌, add-mul, arith, length-set, get_or-take, get_or-drop}
 use Rattle.memory.specs.declared.refusal.MemoryRefusal.{MemoryRefusal}
 use Rattle.memory.specs.declared.refusal.MemoryRefusal.TheVariants.{Locked}
@@ -8,7 +8,19 @@ use Rattle.memory.specs.Calls.{TellsLock, Reads, Writes, Locks}
 use Rattle.window.specs.Window.{shown, window_of}
 use Rattle.memory.proofs.Passes.{passes_space, passes_present, passes_unlocked, meets_locked, was_open, was_shut, never}
 use Rattle.memory.proofs.Stretches.{block_within, read_within, set_within, put_within}
-use Rattle.window.specs.Sound.{window_count, shown_within}
+use Rattle.std.proofs.lemmas.Nat.{mul-le}
+use Rattle.window.specs.Sound.{window_count}
+
+module _ (m : Model) (s : Sound m) (first count : ℕ) where
+  -- what is shown lies within the bytes below, where anything is
+  pub shown_within : 0 < shown m first count → first * m.unit + shown m first count * m.unit ≤ length m.bytes
+  shown_within some =
+      let u = m.unit in
+      let k = shown m first count in
+      let l : (first + k) * u ≤ count_of m * u = mul-le (first + k) u (count_of m) u (omega arith) (omega arith) in
+      let e : (first + k) * u ≡ first * u + k * u = add-mul first k u in
+      let w = s.whole in
+      omega arith
 
 module _ (m : Model) (s : Sound m) (first count n : ℕ) (there : n < shown m first count) where
   pub window_lock : lock_at (window_of m first count) n ≡ lock_at m (first + n)

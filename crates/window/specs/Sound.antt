@@ -1,25 +1,17 @@
 -- That a window is sound, as every memory is. Assumes nothing.
-use Rattle.std.specs.Prelude.{◌≡◌, ℕ, ◌+◌, ◌-◌, ◌*◌, ◌<◌, ◌≤◌, length, drop}
-use Rattle.std.proofs.Common.{sym, ap, ◌∙◌, add-mul, mul_comm, arith, length-take, length-drop, length-take-le}
+use Rattle.std.specs.Prelude.{◌≡◌, ℕ, ◌-◌, ◌*◌, ◌≤◌, length, drop}
+use Rattle.std.proofs.Common.{sym, ap, ◌∙◌, mul_comm, arith, length-take, length-drop, length-take-le}
 use Rattle.std.proofs.Math.Nat.{mul-sub}
 use Rattle.std.proofs.lemmas.Nat.{mul-le}
 use Rattle.memory.specs.Model.{Model, Sound, count_of}
 use Rattle.window.specs.Window.{shown, window_of}
 
+-- how many blocks it has
 pub window_count : (m : Model) (first count : ℕ) → count_of (window_of m first count) ≡ shown m first count
 window_count m first count = simp (length-take, length-drop) (omega arith)
 
 module _ (m : Model) (s : Sound m) (first count : ℕ) where
-  -- what is shown lies within the bytes below, where anything is
-  pub shown_within : 0 < shown m first count → first * m.unit + shown m first count * m.unit ≤ length m.bytes
-  shown_within some =
-      let u = m.unit in
-      let k = shown m first count in
-      let l : (first + k) * u ≤ count_of m * u = mul-le (first + k) u (count_of m) u (omega arith) (omega arith) in
-      let e : (first + k) * u ≡ first * u + k * u = add-mul first k u in
-      let w = s.whole in
-      omega arith
-
+  -- what is shown lies within what stands behind the first block below
   shown_rest : shown m first count * m.unit ≤ length m.bytes - first * m.unit
   shown_rest =
       let u = m.unit in
