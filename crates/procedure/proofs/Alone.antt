@@ -1,11 +1,10 @@
 -- Procedures whose frames are all for one tag. Assumes nothing.
 use Rattle.std.proofs.Common.{◌≡◌, ℕ, ◌+◌, List, [], ◌∷◌, map, sym, refl, ap, ◌∙◌, subst}
-use Rattle.tag.specs.Tag.{TagModel}
 use Rattle.field.specs.Addressed.{AddressedTo, Lone}
 use Rattle.field.specs.Exchange.{hears, heard_from, laid_all}
 use Rattle.field.specs.Placed.{Placed, SoundAll}
 use Rattle.field.proofs.Addressed.{lone_heard, lone_stays, sound_stays}
-use Rattle.procedure.specs.Procedure.{reply_of, Procedure, answer, send, Air, stirred, Outcome, counted, perform, Sends}
+use Rattle.procedure.specs.Procedure.{reply_of, Procedure, answer, send, Air, stirred, Outcome, counted, perform, Sends, standing}
 
 abbrev pub air : List Placed → List ℕ → Air
 air ts s = record { tags = ts; space = s }
@@ -33,10 +32,6 @@ alone u (send f on) to ts s t l =
     let back = sym same in
     let rest = alone u (on r) (to.1 r) (map (hears f) ts) (laid_all (heard_from f (t ∷ [])) s) (hears f t) (lone_stays u f to.0 ts t l) in
     subst (λ x. AsAlone u (counted (perform (on (reply_of x)) (air (map (hears f) ts) (laid_all x s)))) (perform (send f on) (air (t ∷ []) s))) back (more u _ _ rest)
-
--- the tags as they stand, whatever their spans
-abbrev pub standing : List Placed → List TagModel
-standing ts = map (λ p. p.tag) ts
 
 -- a frame that no tag is changed by
 abbrev pub Harmless : List ℕ → Type 0

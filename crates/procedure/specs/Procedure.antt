@@ -1,5 +1,6 @@
 -- A call over a field, as a tree: what it sends, and what it makes of each reply.
 use Rattle.std.specs.Prelude.{◌≡◌, ℕ, ◌+◌, List, [], ◌∷◌, map}
+use Rattle.tag.specs.Tag.{TagModel}
 use Rattle.field.specs.Exchange.{hears, heard_from, laid_all}
 use Rattle.field.specs.Placed.{Placed}
 
@@ -28,6 +29,10 @@ bind (send f on) next = send f (λ r. bind (on r) next)
 pub record Air : Type 0 where
   pub tags : List Placed
   pub space : List ℕ
+
+-- the tags as they stand: bytes, locks and states, whatever their spans
+abbrev pub standing : List Placed → List TagModel
+standing ts = map (λ p. p.tag) ts
 
 -- the air after one frame
 abbrev pub stirred : List ℕ → Air → Air

@@ -6,7 +6,7 @@ use Rattle.memory.specs.Model.{Sound}
 use Rattle.tag.specs.Means.{longest}
 use Rattle.field.specs.Addressed.{Lone}
 use Rattle.field.specs.Placed.{Placed, SoundAll}
-use Rattle.procedure.specs.Procedure.{Air, perform, Performs}
+use Rattle.procedure.specs.Procedure.{Air, perform, Performs, standing}
 use Rattle.procedure.proofs.Alone.{AsAlone, alone, harmless}
 use Rattle.shown.specs.declared.container.Place.{Place}
 use Rattle.shown.specs.declared.flaw.Flaw.{Flaw}
@@ -17,7 +17,7 @@ use Rattle.t5t.specs.declared.stop.Stop.{Stop}
 use Rattle.refusal.specs.Cause.{cause_of}
 use Rattle.t5t.specs.Detection.{detection}
 use Rattle.t5t.specs.Detects.{place_of, stop_of, Detects}
-use Rattle.t5t.specs.Laws.{standing, Stays, Reachable, with_only, located_in, Told, AsOverOne, sent_of, Truly, DetectionLaws}
+use Rattle.t5t.specs.Laws.{Stays, Reachable, with_only, located_in, Told, AsOverOne, sent_of, Truly, DetectionLaws}
 use Rattle.t5t.proofs.Detections.{detection-addressed, detection_harmless, detection-true, detection_complete, Located}
 
 -- the memory of the tag is sound, since every one in the list is

@@ -1,8 +1,8 @@
 -- Detection of one tag finds what its memory shows, and no more. Assumes nothing.
-use Rattle.std.proofs.Common.{◌≡◌, ℕ, zero, suc, ◌+◌, ◌-◌, ◌*◌, ◌<◌, ◌≤◌, true, false, cond, eqb, ltb, leb, ◌⊎◌, List, [], ◌∷◌, length, get_or, drop, replicate, IfOk, Some, None, Ok, Err, Option, Result, sym, refl, ap, ◌∙◌, subst, ⊎_elim, append-nil, arith}
+use Rattle.std.proofs.Common.{◌≡◌, ℕ, zero, suc, ◌+◌, ◌-◌, ◌*◌, ◌<◌, ◌≤◌, true, false, eqb, ltb, leb, ◌⊎◌, List, ◌∷◌, length, get_or, drop, replicate, IfOk, Some, None, Ok, Err, Option, Result, sym, refl, ap, ◌∙◌, subst, ⊎_elim, append-nil, arith}
 use Rattle.std.specs.Option.{option_to_list}
 use Rattle.std.proofs.lemmas.Result.{IfOk-at_ok, IfOk-weaker}
-use Rattle.std.proofs.lemmas.Bool.{cond-true, cond-false, cond_both, cases_Bool, and_from, eq-eqb, le-leb, leb-true, lt-ltb, ltb-true}
+use Rattle.std.proofs.lemmas.Bool.{cond-true, cond-false, cond_both, cases_Bool, and_from, eq-eqb, le-leb, leb-true}
 use Rattle.space.specs.Space.{laid}
 use Rattle.memory.specs.declared.block_length.BlockLength.{BlockLength}
 use Rattle.memory.specs.BlockLength.{bytes_of, listed}
@@ -11,11 +11,9 @@ use Rattle.tag.specs.Rules.{Turn, replies, reads_blocks, blocks_from, turn}
 use Rattle.tag.specs.Tag.{TagModel}
 use Rattle.tag.proofs.Blocks.{block_long}
 use Rattle.field.specs.declared.span.Span.{Span}
-use Rattle.field.specs.declared.span.Span.TheVariants.{Endless, Left}
 use Rattle.field.specs.Addressed.{AddressedTo}
 use Rattle.field.specs.Decode.{is_data, is_error}
-use Rattle.field.specs.Exchange.{says, heard_from}
-use Rattle.field.specs.Span.{fallen, answers}
+use Rattle.field.specs.Span.{answers}
 use Rattle.procedure.specs.Frames.{read_frame}
 use Rattle.procedure.specs.Procedure.{one, reply_of, Procedure, bind, Air, Outcome, perform, Sends}
 use Rattle.procedure.proofs.Alone.{Harmless}
@@ -27,7 +25,8 @@ use Rattle.shown.specs.Asks.{Asks, done, byte, and_then, over}
 use Rattle.shown.specs.Container.{container}
 use Rattle.shown.specs.Shown.{located}
 use Rattle.shown.specs.Walk.{walk}
-use Rattle.t5t.proofs.Truths.{Holds, Answered, fallen_by, Lasts, one_tag, one_stays, asking_sends, truth, complete}
+use Rattle.t5t.proofs.Truths.{Holds, Answered, fallen_by, one_tag, one_stays, asking_sends, truth, complete, lasts_first, lasts_rest, lasts_answers, some_same, none_some, byte-shown, heard-one}
+use Rattle.t5t.specs.Laws.{Stays}
 use Rattle.t5t.specs.declared.kept.Kept.{Kept}
 use Rattle.refusal.specs.declared.step.Step.{Step}
 use Rattle.t5t.specs.declared.stop.Stop.{Stop}
@@ -74,14 +73,6 @@ detection_harmless u low = detection_sends Harmless u (λ n. read_harmless u n l
 
 -- ---- what a memory shows
 
--- what is shown is one thing
-some_same : {A : Type 0} {x y : A} → Some x ≡ Some y → x ≡ y
-some_same e = grind arith
-
--- nothing is not something
-none_some : {A : Type 0} {x : A} → None ≡ Some x → ⊥
-none_some e = grind arith
-
 -- the second part, after what the first shows
 abbrev pub over_then : {V W E : Type 0} → List ℕ → (V → Asks (Result W E)) → Option (Result V E) → Option (Result W E)
 over_then bytes next None = None
@@ -117,11 +108,6 @@ parts_of bytes next r (Some (Err x)) e = (Err x, refl, some_same e)
 pub over_parts : {V W E : Type 0} (bytes : List ℕ) (x : Asks (Result V E)) (next : V → Asks (Result W E)) (r : Result W E) → over bytes (and_then x next) ≡ Some r → (w : Result V E) × (over bytes x ≡ Some w) × Leaves bytes next r w
 over_parts bytes x next r e = parts_of bytes next r (over bytes x) (sym (over_then_lem bytes x next) ∙ e)
 
--- the byte that is asked for is there, where something is shown
-pub byte-shown : {V : Type 0} (bytes : List ℕ) (a : ℕ) (on : ℕ → Asks V) (r : V) → over bytes (byte a on) ≡ Some r → a < length bytes
-byte-shown bytes a on r e =
-    ⊎_elim (λ t. ltb-true a (length bytes) t) (λ f. absurd (none_some (sym (cond-false (ltb a (length bytes)) (over bytes (on (get_or bytes a 0))) None f) ∙ e))) (cases_Bool (ltb a (length bytes)))
-
 -- it asks for some byte
 abbrev pub AsksSome : {V : Type 0} → Asks V → Type 0
 AsksSome (done v) = ⊥
@@ -134,31 +120,9 @@ some_there bytes (byte a on) r asks e = let h = byte-shown bytes a on r e in ome
 
 -- ---- spans
 
--- it lasts for the first exchanges
-lasts_first : (a b : ℕ) (sp : Span) → Lasts (a + b) sp → Lasts a sp
-lasts_first a b Endless l = tt
-lasts_first a b (Left j) l = omega arith
-
--- after one exchange it lasts for one less
-lasts_fallen : (b : ℕ) (sp : Span) → Lasts (suc b) sp → Lasts b (fallen sp)
-lasts_fallen b Endless l = tt
-lasts_fallen b (Left j) l = omega arith
-
--- what is left of it lasts for the rest
-lasts_rest : (a b : ℕ) (sp : Span) → Lasts (a + b) sp → Lasts b (fallen_by a sp)
-lasts_rest zero b sp l = let e : 0 + b ≡ b = omega arith in subst (λ c. Lasts c sp) e l
-lasts_rest (suc a) b sp l =
-    let e : suc a + b ≡ suc (a + b) = omega arith in
-    lasts_rest a b (fallen sp) (lasts_fallen (a + b) sp (subst (λ c. Lasts c sp) e l))
-
 -- a span that lasts for two parts lasts for the first, and then for the second
-pub lasts_parts : (a b : ℕ) (sp : Span) → Lasts (a + b) sp → Lasts a sp × Lasts b (fallen_by a sp)
+pub lasts_parts : (a b : ℕ) (sp : Span) → Stays (a + b) sp → Stays a sp × Stays b (fallen_by a sp)
 lasts_parts a b sp l = (lasts_first a b sp l, lasts_rest a b sp l)
-
--- it lasts for an answer
-lasts_answers : (sp : Span) → Lasts 1 sp → answers sp ≡ true
-lasts_answers Endless l = refl
-lasts_answers (Left j) l = lt-ltb 1 j (omega arith)
 
 -- ---- two procedures in a row, over one tag
 
@@ -186,10 +150,10 @@ module _ {V W : Type 0} (t : TagModel) (p : Procedure V) (next : V → Procedure
       subst (λ (z : Outcome W). Q z.value) (sym then_one) (on had.value a (fallen_by had.sent sp) had.air.space)
 
   -- the same, of a tag that stays for long enough
-  pub then_lasting : (P : V → Type 0) (Q : W → Type 0) → (Lasts had.sent sp → P had.value) → ((v : V) → P v → (sp' : Span) (s' : List ℕ) → Lasts (perform (next v) (one_tag t sp' s')).sent sp' → Q (perform (next v) (one_tag t sp' s')).value) → Lasts (perform (bind p next) (one_tag t sp s)).sent sp → Q (perform (bind p next) (one_tag t sp s)).value
+  pub then_lasting : (P : V → Type 0) (Q : W → Type 0) → (Stays had.sent sp → P had.value) → ((v : V) → P v → (sp' : Span) (s' : List ℕ) → Stays (perform (next v) (one_tag t sp' s')).sent sp' → Q (perform (next v) (one_tag t sp' s')).value) → Stays (perform (bind p next) (one_tag t sp s)).sent sp → Q (perform (bind p next) (one_tag t sp s)).value
   then_lasting P Q a on =
-      let rest : Lasts (behind between).sent sp → Q (behind between).value = λ l. let parts = lasts_parts had.sent (perform (next had.value) between).sent sp l in on had.value (a parts.0) (fallen_by had.sent sp) had.air.space parts.1 in
-      subst (λ (z : Outcome W). Lasts z.sent sp → Q z.value) (sym then_one) rest
+      let rest : Stays (behind between).sent sp → Q (behind between).value = λ l. let parts = lasts_parts had.sent (perform (next had.value) between).sent sp l in on had.value (a parts.0) (fallen_by had.sent sp) had.air.space parts.1 in
+      subst (λ (z : Outcome W). Stays z.sent sp → Q z.value) (sym then_one) rest
 
 -- ---- and where the first may stop
 
@@ -221,7 +185,7 @@ Truthful t p x = (sp : Span) (s : List ℕ) → IfOk (perform p (one_tag t sp s)
 -- whatever the memory shows it answers, if the tag stays for long enough
 abbrev pub Thorough : {V : Type 0} → TagModel → Procedure (Result (V × Option Kept) Stop) → Asks (Result V Flaw) → Type 0
 Thorough {V} t p x =
-    (r : Result V Flaw) → over t.memory.bytes x ≡ Some r → (sp : Span) (s : List ℕ) → Lasts (perform p (one_tag t sp s)).sent sp → Tells t.memory r (perform p (one_tag t sp s)).value
+    (r : Result V Flaw) → over t.memory.bytes x ≡ Some r → (sp : Span) (s : List ℕ) → Stays (perform p (one_tag t sp s)).sent sp → Tells t.memory r (perform p (one_tag t sp s)).value
 
 module _ {V W : Type 0} (t : TagModel) (p : Procedure (Result (V × Option Kept) Stop)) (x : Asks (Result V Flaw)) (q : V × Option Kept → Procedure (Result (W × Option Kept) Stop)) (y : V → Asks (Result W Flaw)) (safe : Sends Harmless p) where
   -- its memory
@@ -235,9 +199,9 @@ module _ {V W : Type 0} (t : TagModel) (p : Procedure (Result (V × Option Kept)
       then_made t p q safe (Shows m x) (Shows m (and_then x y)) sp s (a sp s) second
 
   -- the second part, after what the first tells
-  told : ((v : V) (k : Option Kept) → Holds m k → Thorough t (q (v, k)) (y v)) → (r : Result W Flaw) (w : Result V Flaw) → Leaves m.bytes y r w → (v : Result (V × Option Kept) Stop) → Tells m w v → (sp : Span) (s : List ℕ) → Lasts (perform (or_stop q v) (one_tag t sp s)).sent sp → Tells m r (perform (or_stop q v) (one_tag t sp s)).value
+  told : ((v : V) (k : Option Kept) → Holds m k → Thorough t (q (v, k)) (y v)) → (r : Result W Flaw) (w : Result V Flaw) → Leaves m.bytes y r w → (v : Result (V × Option Kept) Stop) → Tells m w v → (sp : Span) (s : List ℕ) → Stays (perform (or_stop q v) (one_tag t sp s)).sent sp → Tells m r (perform (or_stop q v) (one_tag t sp s)).value
   told b r (Ok c) left v (k, is, h) sp s lasts =
-      subst (λ z. Lasts (perform (or_stop q z) (one_tag t sp s)).sent sp → Tells m r (perform (or_stop q z) (one_tag t sp s)).value) (sym is) (b c k h r left sp s) lasts
+      subst (λ z. Stays (perform (or_stop q z) (one_tag t sp s)).sent sp → Tells m r (perform (or_stop q z) (one_tag t sp s)).value) (sym is) (b c k h r left sp s) lasts
   told b r (Err e) left v (z, is, c) sp s lasts =
       let stops : Tells m (Err e) (perform (or_stop q v) (one_tag t sp s)).value = (z, ap (λ n. (perform (or_stop q n) (one_tag t sp s)).value) is, c) in
       subst (λ n. Tells m n (perform (or_stop q v) (one_tag t sp s)).value) left stops
@@ -313,11 +277,6 @@ module _ (t : TagModel) (u : ℕ) (low : u < 18446744073709551616) (same : t.uid
   zeroth_begun there =
       (zeroth_unit there, (there, ap (λ d. laid d (replicate 32 0)) (append-nil (block_at t.memory 0))))
 
-  -- the answer of the one tag is what is heard
-  heard-one : (f : List ℕ) (sp : Span) → heard_from f (record { tag = t; span = sp } ∷ []) ≡ cond (answers sp) (option_to_list (turn t f).says) []
-  unfolding heard_from says
-  heard-one f sp = append-nil _
-
   -- what the tag answers: the block, if it is there
   zeroth_turn : turn t (read_frame u 0) ≡ replies t (reads_blocks t false 0 1)
   zeroth_turn = read-turn t u 0 low same
@@ -329,12 +288,12 @@ module _ (t : TagModel) (u : ℕ) (low : u < 18446744073709551616) (same : t.uid
       let Q = λ (r : Turn). P (option_to_list r.says) in
       let there = λ (e : leb (0 + 1) (count_of t.memory) ≡ true). first_made zeroth (Begun t.memory) (λ is. zeroth_begun (let l = leb-true (0 + 1) (count_of t.memory) e in omega arith)) in
       let turned : Q (turn t (read_frame u 0)) = subst Q (sym zeroth_turn) (cond_both (leb (0 + 1) (count_of t.memory)) _ _ (λ r. Q (replies t r)) there (λ absent. tt)) in
-      subst P (sym (heard-one (read_frame u 0) sp)) (cond_both (answers sp) _ _ P (λ heard. turned) (λ lost. tt))
+      subst P (sym (heard-one t (read_frame u 0) sp)) (cond_both (answers sp) _ _ P (λ heard. turned) (λ lost. tt))
 
   -- block 0 is had, if it is there and the tag stays for it
-  pub first_given : 0 < count_of t.memory → (sp : Span) (s : List ℕ) → Lasts 1 sp → Begins t.memory (perform (first u) (one_tag t sp s)).value
+  pub first_given : 0 < count_of t.memory → (sp : Span) (s : List ℕ) → Stays 1 sp → Begins t.memory (perform (first u) (one_tag t sp s)).value
   first_given there sp s lasts =
-      let heard = heard-one (read_frame u 0) sp ∙ cond-true _ _ _ (lasts_answers sp lasts) in
+      let heard = heard-one t (read_frame u 0) sp ∙ cond-true _ _ _ (lasts_answers sp lasts) in
       let says = ap (λ (r : Turn). option_to_list r.says) (zeroth_turn ∙ ap (replies t) (cond-true _ _ _ (le-leb (0 + 1) (count_of t.memory) (omega arith)))) in
       let b = unit_of (one zeroth) in
       let is : is_data zeroth (bytes_of b) ≡ true = and_from (eqb (length zeroth) (bytes_of b + 1)) true (eq-eqb (length zeroth) (bytes_of b + 1) (let e = zeroth_unit there in let l = zeroth_long there in omega arith)) refl in
@@ -401,16 +360,16 @@ module _ (t : TagModel) (u : ℕ) (low : u < 18446744073709551616) (same : t.uid
     -- what the memory shows
     module _ (r : Result Place Flaw) (shown : over t.memory.bytes (located t.memory.unit) ≡ Some r) where
       -- is found behind block 0
-      detected_complete : (f : BlockLength × Kept) → Begun t.memory f → (sp : Span) (s : List ℕ) → Lasts (perform (detected u f) (one_tag t sp s)).sent sp → Located t.memory r (perform (detected u f) (one_tag t sp s)).value
+      detected_complete : (f : BlockLength × Kept) → Begun t.memory f → (sp : Span) (s : List ℕ) → Stays (perform (detected u f) (one_tag t sp s)).sent sp → Located t.memory r (perform (detected u f) (one_tag t sp s)).value
       detected_complete f begun sp s =
           then_lasting t (locating u f) (or_stop (found f.0)) (locating_sends Harmless u (λ n. read_harmless u n low) f) sp s (Tells t.memory r) (Located t.memory r) (locating_thorough f begun r shown sp s) (λ v x sp' s' l. found-told f begun r v x (one_tag t sp' s'))
 
       -- once that is had
-      given_complete : (v : Result (BlockLength × Kept) Stop) → Begins t.memory v → (sp : Span) (s : List ℕ) → Lasts (perform (or_stop (detected u) v) (one_tag t sp s)).sent sp → Located t.memory r (perform (or_stop (detected u) v) (one_tag t sp s)).value
+      given_complete : (v : Result (BlockLength × Kept) Stop) → Begins t.memory v → (sp : Span) (s : List ℕ) → Stays (perform (or_stop (detected u) v) (one_tag t sp s)).sent sp → Located t.memory r (perform (or_stop (detected u) v) (one_tag t sp s)).value
       given_complete v (f, is, begun) sp s =
-          subst (λ z. Lasts (perform (or_stop (detected u) z) (one_tag t sp s)).sent sp → Located t.memory r (perform (or_stop (detected u) z) (one_tag t sp s)).value) (sym is) (detected_complete f begun sp s)
+          subst (λ z. Stays (perform (or_stop (detected u) z) (one_tag t sp s)).sent sp → Located t.memory r (perform (or_stop (detected u) z) (one_tag t sp s)).value) (sym is) (detected_complete f begun sp s)
 
       -- what the memory shows is what a detection answers, if the tag stays for long enough
-      pub detection_complete : (sp : Span) (s : List ℕ) → Lasts (perform (detection u) (one_tag t sp s)).sent sp → Located t.memory r (perform (detection u) (one_tag t sp s)).value
+      pub detection_complete : (sp : Span) (s : List ℕ) → Stays (perform (detection u) (one_tag t sp s)).sent sp → Located t.memory r (perform (detection u) (one_tag t sp s)).value
       detection_complete sp s =
           then_lasting t (first u) (or_stop (detected u)) (first_sends Harmless u (λ n. read_harmless u n low)) sp s (Begins t.memory) (Located t.memory r) (first_given (zeroth_there r shown) sp s) given_complete

@@ -1,5 +1,5 @@
 -- Reading of one tag gets the message that its memory shows, and no more. Assumes nothing.
-use Rattle.std.proofs.Common.{◌≡◌, ℕ, zero, suc, ◌+◌, ◌-◌, ◌*◌, ◌/◌, ◌%◌, ◌<◌, ◌≤◌, true, false, eqb, ltb, ◌⊎◌, List, [], ◌++◌, length, take, drop, replicate, IfOk, Some, None, Ok, Err, Option, Result, sym, refl, ap, ◌∙◌, subst, inl, inr, ⊎_elim, mod-lt, div-lt_iff_lt-mul, div-add-mod', arith, length-append, length-drop, length-take-le, take-take, drop-drop, take-add}
+use Rattle.std.proofs.Common.{◌≡◌, ℕ, zero, suc, ◌+◌, ◌-◌, ◌*◌, ◌/◌, ◌%◌, ◌<◌, ◌≤◌, true, false, eqb, ltb, ◌⊎◌, List, [], ◌++◌, length, take, drop, replicate, IfOk, Some, None, Ok, Err, Option, Result, sym, refl, ap, ◌∙◌, subst, inl, inr, mod-lt, div-add-mod', arith, length-append, length-drop, length-take-le, take-take, drop-drop, take-add}
 use native.Mathlib.Nat.{min-le_left, min-le_right}
 use lib.Seq.{take-append-le, drop-append-le}
 use Rattle.std.proofs.lemmas.List.{drop-take}
@@ -22,19 +22,15 @@ use Rattle.shown.specs.Asks.{Asks, and_then, over}
 use Rattle.shown.specs.Shown.{located, valued, value_in, message, shown}
 use Rattle.shown.specs.Walk.{length_field}
 use Rattle.t5t.proofs.Detections.{over_and, Leaves, over_parts, then_true, then_lasting, Shows, Tells, asking_truthful, asking_thorough}
-use Rattle.t5t.proofs.Truths.{Holds, Found, Given, Lasts, one_tag, asking_sends, block_found, block_given}
+use Rattle.t5t.proofs.Truths.{Holds, Found, Given, one_tag, asking_sends, block_sends, unit_some, block_there, none_some, block_found, block_given}
+use Rattle.t5t.specs.Laws.{Stays}
 use Rattle.t5t.specs.declared.kept.Kept.{Kept}
 use Rattle.refusal.specs.declared.step.Step.{Step}
 use Rattle.t5t.specs.declared.stop.Stop.{Stop}
-use Rattle.t5t.specs.Asking.{kept_at, or_reads, block_of, asking}
+use Rattle.t5t.specs.Asking.{kept_at, block_of, asking}
 use Rattle.t5t.specs.Reading.{Break, chunk, chunk_of, or_break, copying, copied, or_broken, reading}
 
 -- ---- the frames of a reading
-
--- a block is had by a frame that reads, or by none
-had_sends : (such : List ℕ → Type 0) (step : Step) (u unit n : ℕ) → such (read_frame u n) → (k : Option Kept) → Sends such (or_reads step u unit n k)
-had_sends such step u unit n all (Some k) = tt
-had_sends such step u unit n all None = (all, λ r. tt)
 
 -- what goes on with a block, or breaks off, sends such frames
 break_sends : (such : List ℕ → Type 0) (got : List ℕ) (next : Kept → Procedure (Result (List ℕ) Break)) → ((k : Kept) → Sends such (next k)) → (r : Result Kept Stop) → Sends such (or_break got next r)
@@ -52,7 +48,7 @@ module _ (such : List ℕ → Type 0) (u unit : ℕ) (all : (n : ℕ) → such (
   copying_sends zero k a left got = tt
   copying_sends (suc fuel) k a left got =
       let next = λ (b : Kept). copying fuel u unit (Some b) (a + chunk unit a left) (left - chunk unit a left) (got ++ chunk_of unit a left b) in
-      let on = sends_bind such (block_of Step.Read u unit k (a / unit)) (or_break got next) (had_sends such Step.Read u unit (a / unit) (all (a / unit)) (kept_at k (a / unit))) (break_sends such got next (λ b. copying_sends fuel (Some b) (a + chunk unit a left) (left - chunk unit a left) (got ++ chunk_of unit a left b))) in
+      let on = sends_bind such (block_of Step.Read u unit k (a / unit)) (or_break got next) (block_sends such Step.Read u unit (a / unit) (all (a / unit)) (kept_at k (a / unit))) (break_sends such got next (λ b. copying_sends fuel (Some b) (a + chunk unit a left) (left - chunk unit a left) (got ++ chunk_of unit a left b))) in
       cond_both (eqb left 0) _ _ (λ p. Sends such p) (λ none. tt) (λ some. on)
 
   -- so does all that follows the L-field
@@ -76,17 +72,9 @@ reading_harmless u unit end at room low = reading_sends Harmless u unit (λ n. r
 -- ---- what is taken of a block
 
 module _ (m : Model) (sound : Sound m) where
-  -- no block is empty
-  unit_some : 0 < m.unit
-  unit_some = ⊎_elim (λ e. omega arith) (⊎_elim (λ e. omega arith) (⊎_elim (λ e. omega arith) (λ e. omega arith))) sound.unit
-
-  -- a byte of the memory is in one of its blocks
-  block_there : (a : ℕ) → a < length m.bytes → a / m.unit < count_of m
-  block_there a h = (div-lt_iff_lt-mul unit_some).1 (subst (λ z. a < z) sound.whole h)
-
   -- something is taken, where something is left
   chunk_some : (a left : ℕ) → 0 < left → 1 ≤ chunk m.unit a left
-  chunk_some a left h = let r = mod-lt a unit_some in omega arith
+  chunk_some a left h = let r = mod-lt a (unit_some m sound) in omega arith
 
   -- no more than is left
   chunk-left : (a left : ℕ) → chunk m.unit a left ≤ left
@@ -95,7 +83,7 @@ module _ (m : Model) (sound : Sound m) where
   -- and no more than is in the block
   chunk_block : (a left : ℕ) → a % m.unit + chunk m.unit a left ≤ m.unit
   chunk_block a left =
-      let r = mod-lt a unit_some in
+      let r = mod-lt a (unit_some m sound) in
       let l = min-le_left (m.unit - a % m.unit) left in
       omega arith
 
@@ -231,7 +219,7 @@ module _ (t : TagModel) (u : ℕ) (low : u < 18446744073709551616) (same : t.uid
 
   -- a block is had by harmless frames
   had_harmless : (k : Option Kept) (n : ℕ) → Sends Harmless (block_of Step.Read u unit k n)
-  had_harmless k n = had_sends Harmless Step.Read u unit n (read_harmless u n low) (kept_at k n)
+  had_harmless k n = block_sends Harmless Step.Read u unit n (read_harmless u n low) (kept_at k n)
 
   -- and so is the L-field
   field_harmless : (end at : ℕ) → Sends Harmless (asking Step.Walk u unit None (length_field end at))
@@ -309,12 +297,12 @@ module _ (t : TagModel) (u : ℕ) (low : u < 18446744073709551616) (same : t.uid
           block_there m sound a (omega arith)
 
       -- with a block that was given
-      break_whole : (n : ℕ) (got : List ℕ) (next : Kept → Procedure (Result (List ℕ) Break)) (r : Result Kept Stop) → Given m n r → (sp : Span) (s : List ℕ) → ((k : Kept) → Found m n k → Lasts (perform (next k) (one_tag t sp s)).sent sp → Whole (perform (next k) (one_tag t sp s)).value) → Lasts (perform (or_break got next r) (one_tag t sp s)).sent sp → Whole (perform (or_break got next r) (one_tag t sp s)).value
+      break_whole : (n : ℕ) (got : List ℕ) (next : Kept → Procedure (Result (List ℕ) Break)) (r : Result Kept Stop) → Given m n r → (sp : Span) (s : List ℕ) → ((k : Kept) → Found m n k → Stays (perform (next k) (one_tag t sp s)).sent sp → Whole (perform (next k) (one_tag t sp s)).value) → Stays (perform (or_break got next r) (one_tag t sp s)).sent sp → Whole (perform (or_break got next r) (one_tag t sp s)).value
       break_whole n got next r (k, is, f) sp s on =
-          subst (λ z. Lasts (perform (or_break got next z) (one_tag t sp s)).sent sp → Whole (perform (or_break got next z) (one_tag t sp s)).value) (sym is) (on k f)
+          subst (λ z. Stays (perform (or_break got next z) (one_tag t sp s)).sent sp → Whole (perform (or_break got next z) (one_tag t sp s)).value) (sym is) (on k f)
 
       -- from some block on
-      copying-whole : (fuel : ℕ) (k : Option Kept) (a left : ℕ) (got : List ℕ) → Holds m k → SoFar m v a left got → left ≤ fuel → (sp : Span) (s : List ℕ) → Lasts (perform (copying fuel u unit k a left got) (one_tag t sp s)).sent sp → Whole (perform (copying fuel u unit k a left got) (one_tag t sp s)).value
+      copying-whole : (fuel : ℕ) (k : Option Kept) (a left : ℕ) (got : List ℕ) → Holds m k → SoFar m v a left got → left ≤ fuel → (sp : Span) (s : List ℕ) → Stays (perform (copying fuel u unit k a left got) (one_tag t sp s)).sent sp → Whole (perform (copying fuel u unit k a left got) (one_tag t sp s)).value
       copying-whole zero k a left got h x enough sp s =
           let none : left ≡ 0 = omega arith in
           λ lasts. ap (λ bs. Ok bs) (so_all m v a left got x none)
@@ -323,11 +311,11 @@ module _ (t : TagModel) (u : ℕ) (low : u < 18446744073709551616) (same : t.uid
           let n = a / unit in
           let next = λ (b : Kept). copying fuel u unit (Some b) (a + c) (left - c) (got ++ chunk_of unit a left b) in
           let block = block_of Step.Read u unit k n in
-          let Q = λ (p : Procedure (Result (List ℕ) Break)). (Lasts (perform p (one_tag t sp s)).sent sp → Whole (perform p (one_tag t sp s)).value) in
+          let Q = λ (p : Procedure (Result (List ℕ) Break)). (Stays (perform p (one_tag t sp s)).sent sp → Whole (perform p (one_tag t sp s)).value) in
           let all : eqb left 0 ≡ true → Q (answer (Ok got)) = λ e l. ap (λ bs. Ok bs) (so_all m v a left got x (eqb-true left 0 e)) in
           let fewer : eqb left 0 ≡ false → left - c ≤ fuel = λ e. let o = chunk_some m sound a left (some_long left e) in omega arith in
           let each = λ (e : eqb left 0 ≡ false) (sp' : Span) (s' : List ℕ) (b : Kept) (f : Found m n b). copying-whole fuel (Some b) (a + c) (left - c) (got ++ chunk_of unit a left b) f.1 (so_more m v sound a left got x b f) (fewer e) sp' s' in
-          let given : eqb left 0 ≡ false → Lasts (perform block (one_tag t sp s)).sent sp → Given m n (perform block (one_tag t sp s)).value = λ e. let there = next-there a left got x (some_long left e) in block_given t u low same sound Step.Read n there (known n there) k h sp s in
+          let given : eqb left 0 ≡ false → Stays (perform block (one_tag t sp s)).sent sp → Given m n (perform block (one_tag t sp s)).value = λ e. let there = next-there a left got x (some_long left e) in block_given t u low same sound Step.Read n there (known n there) k h sp s in
           let more : eqb left 0 ≡ false → Q (bind block (or_break got next)) = λ e. then_lasting t block (or_break got next) (had_harmless k n) sp s (Given m n) Whole (given e) (λ r g sp' s'. break_whole n got next r g sp' s' (each e sp' s')) in
           cond_both (eqb left 0) _ _ Q all more
 
@@ -338,26 +326,22 @@ module _ (t : TagModel) (u : ℕ) (low : u < 18446744073709551616) (same : t.uid
             cond-false _ _ _ (ne_eqb v.long 0 (λ z. omega arith)) ∙ cond-false _ _ _ (le-ltb room v.long fits)
 
         -- behind the L-field
-        copied-whole : (k : Option Kept) → Holds m k → (sp : Span) (s : List ℕ) → Lasts (perform (copied u unit room (v, k)) (one_tag t sp s)).sent sp → Whole (perform (copied u unit room (v, k)) (one_tag t sp s)).value
+        copied-whole : (k : Option Kept) → Holds m k → (sp : Span) (s : List ℕ) → Stays (perform (copied u unit room (v, k)) (one_tag t sp s)).sent sp → Whole (perform (copied u unit room (v, k)) (one_tag t sp s)).value
         copied-whole k h sp s =
-            subst (λ (p : Procedure (Result (List ℕ) Break)). Lasts (perform p (one_tag t sp s)).sent sp → Whole (perform p (one_tag t sp s)).value) (sym (copied_is k)) (copying-whole v.long k v.at v.long [] h (so_none m v) (omega arith) sp s)
+            subst (λ (p : Procedure (Result (List ℕ) Break)). Stays (perform p (one_tag t sp s)).sent sp → Whole (perform p (one_tag t sp s)).value) (sym (copied_is k)) (copying-whole v.long k v.at v.long [] h (so_none m v) (omega arith) sp s)
 
         -- with the L-field that was told
-        broken_whole : (r : Result (Value × Option Kept) Stop) → Tells m (Ok v) r → (sp : Span) (s : List ℕ) → Lasts (perform (or_broken (copied u unit room) r) (one_tag t sp s)).sent sp → Whole (perform (or_broken (copied u unit room) r) (one_tag t sp s)).value
+        broken_whole : (r : Result (Value × Option Kept) Stop) → Tells m (Ok v) r → (sp : Span) (s : List ℕ) → Stays (perform (or_broken (copied u unit room) r) (one_tag t sp s)).sent sp → Whole (perform (or_broken (copied u unit room) r) (one_tag t sp s)).value
         broken_whole r (k, is, h) sp s =
-            subst (λ z. Lasts (perform (or_broken (copied u unit room) z) (one_tag t sp s)).sent sp → Whole (perform (or_broken (copied u unit room) z) (one_tag t sp s)).value) (sym is) (copied-whole k h sp s)
+            subst (λ z. Stays (perform (or_broken (copied u unit room) z) (one_tag t sp s)).sent sp → Whole (perform (or_broken (copied u unit room) z) (one_tag t sp s)).value) (sym is) (copied-whole k h sp s)
 
     -- the value that the memory shows is what a reading gets, if the tag stays for long enough
-    pub reading_complete : (end at room : ℕ) (v : Value) → over t.memory.bytes (length_field end at) ≡ Some (Ok v) → 1 ≤ v.long → v.long ≤ room → v.at + v.long ≤ length t.memory.bytes → (sp : Span) (s : List ℕ) → Lasts (perform (reading u t.memory.unit end at room) (one_tag t sp s)).sent sp → (perform (reading u t.memory.unit end at room) (one_tag t sp s)).value ≡ Ok (take v.long (drop v.at t.memory.bytes))
+    pub reading_complete : (end at room : ℕ) (v : Value) → over t.memory.bytes (length_field end at) ≡ Some (Ok v) → 1 ≤ v.long → v.long ≤ room → v.at + v.long ≤ length t.memory.bytes → (sp : Span) (s : List ℕ) → Stays (perform (reading u t.memory.unit end at room) (one_tag t sp s)).sent sp → (perform (reading u t.memory.unit end at room) (one_tag t sp s)).value ≡ Ok (take v.long (drop v.at t.memory.bytes))
     reading_complete end at room v shows some fits within sp s =
         let x = length_field end at in
         then_lasting t (asking Step.Walk u unit None x) (or_broken (copied u unit room)) (field_harmless end at) sp s (Tells m (Ok v)) (Whole v within) (asking_thorough t u low same sound known Step.Walk unit refl x None tt (Ok v) shows sp s) (broken_whole v within some room fits)
 
 -- ---- with what a detection finds
-
--- nothing is not something
-none_some : {A : Type 0} {x : A} → None ≡ Some x → ⊥
-none_some e = grind arith
 
 -- a flaw is no value
 err_ok : {V E : Type 0} {e : E} {v : V} → ◌≡◌ {A = Result V E} (Err e) (Ok v) → ⊥

@@ -4,7 +4,7 @@ use Rattle.std.proofs.lemmas.Bool.{cond-true, cond-false, cases_Bool, leb-true}
 use Rattle.tag.specs.Means.{longest}
 use Rattle.field.specs.Addressed.{Lone}
 use Rattle.field.specs.Placed.{Placed, SoundAll}
-use Rattle.procedure.specs.Procedure.{Procedure, Air, perform}
+use Rattle.procedure.specs.Procedure.{Procedure, Air, perform, standing}
 use Rattle.procedure.proofs.Alone.{AsAlone, alone, harmless}
 use Rattle.shown.specs.declared.container.Place.{Place}
 use Rattle.shown.specs.declared.flaw.Flaw.{Flaw}
@@ -13,7 +13,7 @@ use Rattle.shown.specs.Asks.{over}
 use Rattle.shown.specs.Shown.{valued, value_in, shown}
 use Rattle.t5t.specs.declared.reading.NotRead.{NotRead}
 use Rattle.t5t.specs.declared.reading.Received.{Received}
-use Rattle.t5t.specs.Laws.{standing, Stays, Reachable, with_only, located_in, got_in, AsReadOverOne, Shown, Gives, ReadingLaws}
+use Rattle.t5t.specs.Laws.{Stays, Reachable, with_only, located_in, got_in, AsReadOverOne, Shown, Gives, ReadingLaws}
 use Rattle.t5t.specs.Reading.{Break, reading}
 use Rattle.t5t.specs.Reads.{outcome_by, exchanges_of, Read, Reads}
 use Rattle.t5t.proofs.DetectionLaws.{lone_sound}

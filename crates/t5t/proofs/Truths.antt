@@ -24,6 +24,7 @@ use Rattle.shown.specs.Asks.{Asks, done, byte, over}
 use Rattle.t5t.specs.declared.kept.Kept.{Kept}
 use Rattle.refusal.specs.declared.step.Step.{Step}
 use Rattle.t5t.specs.declared.stop.Stop.{Stop}
+use Rattle.t5t.specs.Laws.{Stays}
 use Rattle.t5t.specs.Asking.{replied, kept_of, received, reads, kept_at, or_reads, block_of, flawed, or_stop, asking}
 
 -- the block that is kept is the tag's
@@ -49,11 +50,6 @@ abbrev pub fallen_by : ℕ → Span → Span
 fallen_by zero sp = sp
 fallen_by (suc n) sp = fallen_by n (fallen sp)
 
--- a span that so many exchanges do not use up
-abbrev pub Lasts : ℕ → Span → Type 0
-Lasts n Endless = Unit {0}
-Lasts n (Left j) = 2 * n ≤ j
-
 -- a field of one tag
 abbrev pub one_tag : TagModel → Span → List ℕ → Air
 one_tag t sp s = record { tags = record { tag = t; span = sp } ∷ []; space = s }
@@ -65,24 +61,24 @@ fallen_last : (n : ℕ) (sp : Span) → fallen_by n (fallen sp) ≡ fallen_by (n
 fallen_last n sp = let e : suc n ≡ n + 1 = omega arith in ap (λ c. fallen_by c sp) e
 
 -- it lasts for the first exchanges
-lasts_first : (a b : ℕ) (sp : Span) → Lasts (a + b) sp → Lasts a sp
+pub lasts_first : (a b : ℕ) (sp : Span) → Stays (a + b) sp → Stays a sp
 lasts_first a b Endless l = tt
 lasts_first a b (Left j) l = omega arith
 
 -- after one exchange it lasts for one less
-lasts_fallen : (b : ℕ) (sp : Span) → Lasts (suc b) sp → Lasts b (fallen sp)
+lasts_fallen : (b : ℕ) (sp : Span) → Stays (suc b) sp → Stays b (fallen sp)
 lasts_fallen b Endless l = tt
 lasts_fallen b (Left j) l = omega arith
 
 -- what is left of it lasts for the rest
-lasts_rest : (a b : ℕ) (sp : Span) → Lasts (a + b) sp → Lasts b (fallen_by a sp)
-lasts_rest zero b sp l = let e : 0 + b ≡ b = omega arith in subst (λ c. Lasts c sp) e l
+pub lasts_rest : (a b : ℕ) (sp : Span) → Stays (a + b) sp → Stays b (fallen_by a sp)
+lasts_rest zero b sp l = let e : 0 + b ≡ b = omega arith in subst (λ c. Stays c sp) e l
 lasts_rest (suc a) b sp l =
     let e : suc a + b ≡ suc (a + b) = omega arith in
-    lasts_rest a b (fallen sp) (lasts_fallen (a + b) sp (subst (λ c. Lasts c sp) e l))
+    lasts_rest a b (fallen sp) (lasts_fallen (a + b) sp (subst (λ c. Stays c sp) e l))
 
 -- it lasts for an answer
-lasts_answers : (sp : Span) → Lasts 1 sp → answers sp ≡ true
+pub lasts_answers : (sp : Span) → Stays 1 sp → answers sp ≡ true
 lasts_answers Endless l = refl
 lasts_answers (Left j) l = lt-ltb 1 j (omega arith)
 
@@ -107,7 +103,7 @@ one_stays {V} t (send f on) h sp s =
     subst (λ z. (perform (on r) z).air ≡ one_tag t (fallen_by ((perform (on r) z).sent + 1) sp) (perform (on r) z).air.space) (sym fell) last
 
 -- a block is had by frames that read, or by none
-block_sends : (such : List ℕ → Type 0) (step : Step) (u unit n : ℕ) → such (read_frame u n) → (k : Option Kept) → Sends such (or_reads step u unit n k)
+pub block_sends : (such : List ℕ → Type 0) (step : Step) (u unit n : ℕ) → such (read_frame u n) → (k : Option Kept) → Sends such (or_reads step u unit n k)
 block_sends such step u unit n all (Some k) = tt
 block_sends such step u unit n all None = (all, λ r. tt)
 
@@ -129,11 +125,11 @@ asking_sends {V} such step u unit all k (byte a on) =
 
 module _ (m : Model) (sound : Sound m) where
   -- no block is empty
-  unit_some : 0 < m.unit
+  pub unit_some : 0 < m.unit
   unit_some = ⊎_elim (λ e. omega arith) (⊎_elim (λ e. omega arith) (⊎_elim (λ e. omega arith) (λ e. omega arith))) sound.unit
 
   -- a byte of the memory is in one of its blocks
-  block_there : (a : ℕ) → a < length m.bytes → a / m.unit < count_of m
+  pub block_there : (a : ℕ) → a < length m.bytes → a / m.unit < count_of m
   block_there a h = (div-lt_iff_lt-mul unit_some).1 (subst (λ z. a < z) sound.whole h)
 
   -- a byte of one of the blocks is in the memory
@@ -163,19 +159,24 @@ module _ (m : Model) (sound : Sound m) where
 -- ---- what a memory shows
 
 -- what is shown is one thing
-some_same : {A : Type 0} {x y : A} → Some x ≡ Some y → x ≡ y
+pub some_same : {A : Type 0} {x y : A} → Some x ≡ Some y → x ≡ y
 some_same e = grind arith
 
 -- nothing is not something
-none_some : {A : Type 0} {x : A} → None ≡ Some x → ⊥
+pub none_some : {A : Type 0} {x : A} → None ≡ Some x → ⊥
 none_some e = grind arith
 
 -- the byte that is asked for is there, where something is shown
-byte-shown : {V : Type 0} (bytes : List ℕ) (a : ℕ) (on : ℕ → Asks V) (r : V) → over bytes (byte a on) ≡ Some r → a < length bytes
+pub byte-shown : {V : Type 0} (bytes : List ℕ) (a : ℕ) (on : ℕ → Asks V) (r : V) → over bytes (byte a on) ≡ Some r → a < length bytes
 byte-shown bytes a on r e =
     ⊎_elim (λ t. ltb-true a (length bytes) t) (λ f. absurd (none_some (sym (cond-false _ _ _ f) ∙ e))) (cases_Bool (ltb a (length bytes)))
 
 -- ---- one block
+
+-- the answer of the one tag is what is heard
+pub heard-one : (t : TagModel) (f : List ℕ) (sp : Span) → heard_from f (record { tag = t; span = sp } ∷ []) ≡ cond (answers sp) (option_to_list (turn t f).says) []
+unfolding heard_from says
+heard-one t f sp = append-nil _
 
 -- an answer that is data
 data_made : (n : ℕ) (a : List ℕ) (step : Step) (b : ℕ) (P : Kept → Type 0) → (is_data a n ≡ true → P (kept_of b (drop 1 a))) → IfOk (received step b (replied n (one a))) P
@@ -187,11 +188,6 @@ module _ (t : TagModel) (u : ℕ) (low : u < 18446744073709551616) (same : t.uid
   -- its memory
   abbrev m : Model
   m = t.memory
-
-  -- the answer of the one tag is what is heard
-  heard-one : (f : List ℕ) (sp : Span) → heard_from f (record { tag = t; span = sp } ∷ []) ≡ cond (answers sp) (option_to_list (turn t f).says) []
-  unfolding heard_from says
-  heard-one f sp = append-nil _
 
   module _ (n : ℕ) where
     -- what is made of what is heard
@@ -215,7 +211,7 @@ module _ (t : TagModel) (u : ℕ) (low : u < 18446744073709551616) (same : t.uid
         let present = λ (there : leb (n + 1) (count_of m) ≡ true). data_made m.unit (0 ∷ blocks_from m false n 1) step n (Found m n) (λ is. memory_found (let l = leb-true (n + 1) (count_of m) there in omega arith)) in
         let reading : Q (replies t (reads_blocks t false n 1)) = cond_both (leb (n + 1) (count_of m)) _ _ (λ r. Q (replies t r)) present (λ absent. error_none _) in
         let turned : Q (turn t (read_frame u n)) = subst Q (sym (read-turn t u n low same)) (cond_both (leb n 255 || t.marks.wide) _ _ (λ r. Q (replies t r)) (λ known. reading) (λ unknown. error_none _)) in
-        subst P (sym (heard-one (read_frame u n) sp)) (cond_both (answers sp) _ _ P (λ heard. turned) (λ lost. tt))
+        subst P (sym (heard-one t (read_frame u n) sp)) (cond_both (answers sp) _ _ P (λ heard. turned) (λ lost. tt))
 
     -- and a block that is kept, or else read
     pub block_found : (k : Option Kept) → Holds m k → (sp : Span) (s : List ℕ) → IfOk (perform (block_of step u m.unit k n) (one_tag t sp s)).value (Found m n)
@@ -280,22 +276,22 @@ module _ (t : TagModel) (u : ℕ) (low : u < 18446744073709551616) (same : t.uid
     known_number = ⊎_elim (λ h. or_left (leb n 255) t.marks.wide (le-leb n 255 h)) (λ w. or_right (leb n 255) t.marks.wide w) known
 
     -- the tag answers the block
-    read_given : (sp : Span) (s : List ℕ) → Lasts 1 sp → Given m n (perform (reads step u m.unit n) (one_tag t sp s)).value
+    read_given : (sp : Span) (s : List ℕ) → Stays 1 sp → Given m n (perform (reads step u m.unit n) (one_tag t sp s)).value
     read_given sp s lasts =
-        let heard = heard-one (read_frame u n) sp ∙ cond-true _ _ _ (lasts_answers sp lasts) in
+        let heard = heard-one t (read_frame u n) sp ∙ cond-true _ _ _ (lasts_answers sp lasts) in
         let says = ap (λ (r : Turn). option_to_list r.says) (read-turn t u n low same ∙ ap (replies t) (cond-true _ _ _ known_number ∙ cond-true _ _ _ (le-leb (n + 1) (count_of m) (omega arith)))) in
         (kept_of n (block_at m n ++ []), ap (read_as n) (heard ∙ says) ∙ ap (received step n) (cond-true _ _ _ block_data), memory_found n there)
 
     -- so is it had, kept or read
-    pub block_given : (k : Option Kept) → Holds m k → (sp : Span) (s : List ℕ) → Lasts (perform (block_of step u m.unit k n) (one_tag t sp s)).sent sp → Given m n (perform (block_of step u m.unit k n) (one_tag t sp s)).value
+    pub block_given : (k : Option Kept) → Holds m k → (sp : Span) (s : List ℕ) → Stays (perform (block_of step u m.unit k n) (one_tag t sp s)).sent sp → Given m n (perform (block_of step u m.unit k n) (one_tag t sp s)).value
     block_given None h sp s lasts = read_given sp s lasts
     block_given (Some k) h sp s lasts =
-        cond_both (eqb k.number n) (Some k) None (λ o. Lasts (perform (or_reads step u m.unit n o) (one_tag t sp s)).sent sp → Given m n (perform (or_reads step u m.unit n o) (one_tag t sp s)).value) (λ is l. (k, refl, (eqb-true k.number n is, h))) (λ other l. read_given sp s l) lasts
+        cond_both (eqb k.number n) (Some k) None (λ o. Stays (perform (or_reads step u m.unit n o) (one_tag t sp s)).sent sp → Given m n (perform (or_reads step u m.unit n o) (one_tag t sp s)).value) (λ is l. (k, refl, (eqb-true k.number n is, h))) (λ other l. read_given sp s l) lasts
 
   -- every block has a number that the tag knows
   module _ (known : (n : ℕ) → n < count_of m → (n ≤ 255) ⊎ (t.marks.wide ≡ true)) where
     -- whatever the memory shows is answered, if the tag stays for long enough
-    pub complete : {V : Type 0} (x : Asks (Result V Flaw)) (r : Result V Flaw) → over m.bytes x ≡ Some r → (k : Option Kept) → Holds m k → (sp : Span) (s : List ℕ) → Lasts (perform (asking step u m.unit k x) (one_tag t sp s)).sent sp → Answered m step r (perform (asking step u m.unit k x) (one_tag t sp s)).value
+    pub complete : {V : Type 0} (x : Asks (Result V Flaw)) (r : Result V Flaw) → over m.bytes x ≡ Some r → (k : Option Kept) → Holds m k → (sp : Span) (s : List ℕ) → Stays (perform (asking step u m.unit k x) (one_tag t sp s)).sent sp → Answered m step r (perform (asking step u m.unit k x) (one_tag t sp s)).value
     complete (done (Ok v)) r shown k h sp s lasts =
         subst (λ z. Answered m step z (Ok (v, k))) (some_same shown) (k, refl, h)
     complete {V} (done (Err e)) r shown k h sp s lasts =
@@ -310,9 +306,9 @@ module _ (t : TagModel) (u : ℕ) (low : u < 18446744073709551616) (same : t.uid
         let s' = o.air.space in
         let b = one_tag t sp' s' in
         let there = block_there m sound a (byte-shown m.bytes a on r shown) in
-        let P = λ (w : Result Kept Stop) (c : Air). (Lasts (o.sent + (perform (or_stop each w) c).sent) sp → Answered m step r (perform (or_stop each w) c).value) in
+        let P = λ (w : Result Kept Stop) (c : Air). (Stays (o.sent + (perform (or_stop each w) c).sent) sp → Answered m step r (perform (or_stop each w) c).value) in
         let next : (k' : Kept) → Found m n k' → P (Ok k') b = λ k' f l. complete (on (get_or k'.bytes i 0)) r (sym (kept-shown m sound k' a on f) ∙ shown) (Some k') f.1 sp' s' (lasts_rest o.sent (perform (each k') b).sent sp l) in
         let goes : Given m n o.value → P o.value b = λ g. subst (λ w. P w b) (sym g.1) (next g.0 g.2) in
         let rest : P o.value b = λ l. goes (block_given n there (known n there) k h sp s (lasts_first o.sent (perform (or_stop each o.value) b).sent sp l)) l in
         let from = subst (λ c. P o.value c) (sym (block_stays n k sp s)) rest in
-        subst (λ z. Lasts z.sent sp → Answered m step r z.value) (sym (perform-bind block (or_stop each) (one_tag t sp s))) from lasts
+        subst (λ z. Stays z.sent sp → Answered m step r z.value) (sym (perform-bind block (or_stop each) (one_tag t sp s))) from lasts

@@ -1,5 +1,5 @@
 -- What detections and readings promise in the words of tags and messages.
-use Rattle.std.specs.Prelude.{◌≡◌, ℕ, ◌*◌, ◌<◌, ◌≤◌, true, ◌⊎◌, List, [], ◌∷◌, map, length, take, Some, Ok, Err, Result}
+use Rattle.std.specs.Prelude.{◌≡◌, ℕ, ◌*◌, ◌<◌, ◌≤◌, true, ◌⊎◌, List, [], ◌∷◌, length, take, Some, Ok, Err, Result}
 use Rattle.memory.specs.BlockLength.{bytes_of}
 use Rattle.memory.specs.Model.{Model, count_of}
 use Rattle.tag.specs.Means.{longest}
@@ -8,7 +8,7 @@ use Rattle.field.specs.declared.span.Span.{Span}
 use Rattle.field.specs.declared.span.Span.TheVariants.{Endless, Left}
 use Rattle.field.specs.Addressed.{Lone}
 use Rattle.field.specs.Placed.{Placed}
-use Rattle.procedure.specs.Procedure.{Air, perform}
+use Rattle.procedure.specs.Procedure.{Air, standing, perform}
 use Rattle.shown.specs.declared.container.Place.{Place}
 use Rattle.shown.specs.declared.flaw.Flaw.{Flaw}
 use Rattle.shown.specs.Asks.{over}
@@ -22,10 +22,6 @@ use Rattle.t5t.specs.Detection.{detection}
 use Rattle.t5t.specs.Detects.{place_of, stop_of}
 use Rattle.t5t.specs.Reading.{reading}
 use Rattle.t5t.specs.Reads.{outcome_by, length_of, exchanges_of}
-
--- the tags as they stand: bytes, locks and states, whatever their spans
-abbrev pub standing : List Placed → List TagModel
-standing ts = map (λ p. p.tag) ts
 
 -- a span that is long enough for so many exchanges
 abbrev pub Stays : ℕ → Span → Type 0
