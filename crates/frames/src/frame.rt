@@ -1,51 +1,41 @@
 // The frames that a gate sends.
-ghost use Rattle.std.specs.Prelude.{◌≡◌, ◌≤◌, take};
+ghost use Rattle.std.specs.Prelude.{◌≡◌};
 ghost use Rattle.procedure.specs.Frames.{read_frame};
+ghost use Rattle.frames.specs.Frame.{bytes_of};
 
-use crate::numbers::low_first;
 use tag::Uid;
 
-// A frame, in the front of its bytes.
-#[derive(Clone, Copy)]
-pub struct Frame {
-    bytes: [u8; 12],
-    length: usize,
-    ghost short: { length ≤ 12 },
+// A frame, by how many bytes its block number has.
+#[derive(Clone, Copy, PartialEq, Eq, Debug)]
+pub enum Frame {
+    OneByte([u8; 11]),
+    TwoBytes([u8; 12]),
 }
 
 // Addressed, with the other bits as they must be.
 const ADDRESSED: u8 = 0x22;
 
-// A frame that reads a block: up to 255 under 20h, later ones under 30h with the low byte first.
-fn to_read(uid: Uid, block: u16) -> Frame
-    ensures { take result.length result.bytes ≡ read_frame uid.0 block }
-{
-    let [a, b, c, d, e, f, g, h] = uid.0.to_le_bytes();
-    if block <= 255 {
-        let number = block as u8;
-        return Frame {
-            bytes: [ADDRESSED, 0x20, a, b, c, d, e, f, g, h, number, 0],
-            length: 11,
-        };
-    }
-    let [low, high] = low_first(block);
-    Frame {
-        bytes: [ADDRESSED, 0x30, a, b, c, d, e, f, g, h, low, high],
-        length: 12,
-    }
-}
-
 impl Frame {
-    // Reads a block of the tag.
+    // Reads a block of the tag: up to 255 under 20h, later ones under 30h with the low byte first.
     pub fn read(uid: Uid, block: u16) -> Frame
-        ensures { take result.length result.bytes ≡ read_frame uid.0 block }
+        ensures { bytes_of result ≡ read_frame uid.0 block }
     {
-        to_read(uid, block)
+        let [a, b, c, d, e, f, g, h] = uid.0.to_le_bytes();
+        match u8::try_from(block) {
+            Ok(number) => Frame::OneByte([ADDRESSED, 0x20, a, b, c, d, e, f, g, h, number]),
+            Err(_) => {
+                let [low, high] = block.to_le_bytes();
+                Frame::TwoBytes([ADDRESSED, 0x30, a, b, c, d, e, f, g, h, low, high])
+            }
+        }
     }
 
     pub fn bytes(&self) -> &[u8]
-        ensures { result.now ≡ take self.now.length self.now.bytes }
+        ensures { result.now ≡ bytes_of self.now }
     {
-        &self.bytes[..self.length]
+        match self {
+            Frame::OneByte(bytes) => bytes,
+            Frame::TwoBytes(bytes) => bytes,
+        }
     }
 }

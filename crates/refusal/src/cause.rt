@@ -5,7 +5,7 @@ ghost use Rattle.refusal.specs.Cause.{number_of, cause_of, cause_of_answer};
 use field::AnswerRefusal;
 use shown::Flaw;
 
-#[derive(Clone, Copy)]
+#[derive(Clone, Copy, PartialEq, Eq, Debug)]
 pub enum Cause {
     // 1: the answer space is shorter than the longest answer.
     AnswerSpaceShort,
@@ -53,11 +53,13 @@ impl Cause {
             Cause::NotUnderstood => 22,
         }
     }
+}
 
-    // Of a tag that shows nothing.
-    pub fn of_flaw(flaw: Flaw) -> Cause
-        ensures { result ≡ cause_of flaw }
-    {
+// Of a tag that shows nothing.
+impl From<Flaw> for Cause {
+    ghost from_gives = { λ flaw cause. cause ≡ cause_of flaw };
+
+    fn from(flaw: Flaw) -> Cause {
         match flaw {
             Flaw::NotNdef => Cause::NotNdef,
             Flaw::NotReadable => Cause::NoAccess,
@@ -66,11 +68,13 @@ impl Cause {
             Flaw::NoMessage => Cause::NoMessage,
         }
     }
+}
 
-    // Of an answer without data.
-    pub fn of_answer(refusal: AnswerRefusal) -> Cause
-        ensures { result ≡ cause_of_answer refusal }
-    {
+// Of an answer without data.
+impl From<AnswerRefusal> for Cause {
+    ghost from_gives = { λ refusal cause. cause ≡ cause_of_answer refusal };
+
+    fn from(refusal: AnswerRefusal) -> Cause {
         match refusal {
             AnswerRefusal::TagError { code } => Cause::TagError { code },
             AnswerRefusal::NotUnderstood => Cause::NotUnderstood,

@@ -2,7 +2,7 @@
 use crate::cause::Cause;
 use crate::step::Step;
 
-#[derive(Clone, Copy)]
+#[derive(Clone, Copy, PartialEq, Eq, Debug)]
 pub struct Refusal {
     pub cause: Cause,
     pub step: Step,

@@ -1,7 +1,7 @@
 // Where the TLVs of a tag are, and its message among them.
 use crate::header::Header;
 
-#[derive(Clone, Copy)]
+#[derive(Clone, Copy, PartialEq, Eq, Debug)]
 pub struct Container {
     pub header: Header,
     // where the TLVs begin
@@ -11,7 +11,7 @@ pub struct Container {
 }
 
 // A message TLV.
-#[derive(Clone, Copy)]
+#[derive(Clone, Copy, PartialEq, Eq, Debug)]
 pub struct Place {
     pub container: Container,
     pub at: u32,

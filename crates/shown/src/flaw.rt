@@ -2,18 +2,19 @@
 ghost use Rattle.std.specs.Prelude.{◌≡◌};
 ghost use Rattle.shown.specs.Flaw.{number_of};
 
-#[derive(Clone, Copy)]
+// Each has the number under which it is listed.
+#[derive(Clone, Copy, PartialEq, Eq, Debug)]
 pub enum Flaw {
-    // 10: another magic number, or another version.
-    NotNdef,
-    // 11: its bytes may not be read.
-    NotReadable,
-    // 12: its end is past what block numbers reach.
-    TooLong,
-    // 13: a TLV is malformed.
-    Malformed,
-    // 14: there is no message TLV.
-    NoMessage,
+    // another magic number, or another version
+    NotNdef = 10,
+    // its bytes may not be read
+    NotReadable = 11,
+    // its end is past what block numbers reach
+    TooLong = 12,
+    // a TLV is malformed
+    Malformed = 13,
+    // there is no message TLV
+    NoMessage = 14,
 }
 
 impl Flaw {
@@ -21,12 +22,6 @@ impl Flaw {
     pub fn number(self) -> u8
         ensures { result ≡ number_of self }
     {
-        match self {
-            Flaw::NotNdef => 10,
-            Flaw::NotReadable => 11,
-            Flaw::TooLong => 12,
-            Flaw::Malformed => 13,
-            Flaw::NoMessage => 14,
-        }
+        self as u8
     }
 }

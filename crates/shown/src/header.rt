@@ -1,5 +1,5 @@
 // The four bytes that every capability container has.
-#[derive(Clone, Copy)]
+#[derive(Clone, Copy, PartialEq, Eq, Debug)]
 pub struct Header {
     // E1h, for one-byte block numbers, or E2h
     pub magic: u8,
