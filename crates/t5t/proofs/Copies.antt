@@ -6,6 +6,7 @@ use Rattle.memory.specs.declared.block_length.BlockLength.TheVariants.{Four, Eig
 use Rattle.memory.specs.BlockLength.{bytes_of}
 use Rattle.space.specs.Space.{laid, put}
 use Rattle.space.proofs.Puts.{put-none, Laid, behind}
+use Rattle.field.specs.declared.field.Field as Field
 use Rattle.procedure.specs.Procedure.{Procedure, answer, bind, Air, Performs}
 use Rattle.procedure.proofs.Binds.{performs-none, performs_then}
 use Rattle.shown.specs.declared.value.Value.{Value}
@@ -13,7 +14,9 @@ use Rattle.t5t.specs.declared.kept.Kept.{Kept}
 use Rattle.t5t.specs.declared.link.Link.{Link}
 use Rattle.refusal.specs.declared.step.Step.TheVariants as Step
 use Rattle.t5t.specs.declared.stop.Stop.{Stop}
+use Rattle.t5t.specs.declared.tlvs.Tlvs.{Tlvs}
 use Rattle.t5t.specs.Asking.{block_of, Had}
+use Rattle.t5t.specs.Calls.{air_in, SameAir}
 use Rattle.t5t.specs.Reading.{Break, chunk, chunk_of, or_break, copying}
 
 -- the rest of the copying of v, from l on, with so much fuel, so many bytes done
@@ -33,12 +36,11 @@ pub record Copying (v : Value) (l₀ l : Link) (a₀ a : Air) (s₀ s : List ℕ
   pub left : s ≡ put s₀ 0 got
   pub rest : (b : Air) (r : Result (List ℕ) Break) (n : ℕ) → Performs (rest_of v l fuel done got) a b r l.exchanges n → Performs (all_of v l₀) a₀ b r l₀.exchanges n
   pub within : done ≤ v.long
-  pub few : l.exchanges ≤ done + 8
   pub unit : l.unit ≡ l₀.unit
   pub uid : l.uid ≡ l₀.uid
 
-pub copying-none : (v : Value) (l : Link) (a : Air) (s : List ℕ) → l.exchanges ≤ 8 → Copying v l l a a s s 0
-copying-none v l a s few =
+pub copying-none : (v : Value) (l : Link) (a : Air) (s : List ℕ) → Copying v l l a a s s 0
+copying-none v l a s =
     let e : v.at + 0 ≡ v.at = omega arith in
     let f : v.long - 0 ≡ v.long = omega arith in
     record {
@@ -49,7 +51,6 @@ copying-none v l a s few =
       left = sym (put-none s 0);
       rest = λ b r n x. subst (λ k. Performs (copying v.long l.uid.0 (bytes_of l.unit) l.kept v.at k []) a b r l.exchanges n) f (subst (λ k. Performs (copying v.long l.uid.0 (bytes_of l.unit) l.kept k (v.long - 0) []) a b r l.exchanges n) e x);
       within = omega arith;
-      few = omega arith;
       unit = refl;
       uid = refl;
     }
@@ -95,10 +96,9 @@ module _ (v : Value) (l₀ l : Link) (a₀ a : Air) (s₀ s : List ℕ) (done : 
       x.rest b (Err (record { stop = z; got = x.got })) l'.exchanges (turned x.fuel (Err z) b (Err (record { stop = z; got = x.got })) l'.exchanges x.enough had (performs-none b (Err (record { stop = z; got = x.got })) l'.exchanges))
 
   -- the block's bytes lie behind those that were got
-  pub copying_on : (k : Kept) (count : ℕ) (s' : List ℕ) → Had Step.Read n l l' a b (Ok k) → count ≡ chunk unit at left → 1 ≤ count → length (chunk_of unit at left k) ≡ count → s' ≡ put s done (chunk_of unit at left k) → l'.exchanges ≤ l.exchanges + 1 → Copying v l₀ l' a₀ b s₀ s' (done + count)
+  pub copying_on : (k : Kept) (count : ℕ) (s' : List ℕ) → Had Step.Read n l l' a b (Ok k) → count ≡ chunk unit at left → 1 ≤ count → length (chunk_of unit at left k) ≡ count → s' ≡ put s done (chunk_of unit at left k) → Copying v l₀ l' a₀ b s₀ s' (done + count)
   unfolding next
-  copying_on k count s' had ec some long es few =
-      let was = x.few in
+  copying_on k count s' had ec some long es =
       let enough = x.enough in
       let lies : Laid s₀ 0 x.got s done = record { after = x.left; value = let g = x.long in omega arith } in
       let now-lies = behind (chunk_of unit at left k) s' (done + count) (omega arith) lies es (ap (λ z. done + z) (sym long)) in
@@ -116,7 +116,6 @@ module _ (v : Value) (l₀ l : Link) (a₀ a : Air) (s₀ s : List ℕ) (done : 
         left = now-lies.after;
         rest = λ c w m y. x.rest c w m (turned x.fuel (Ok k) c w m x.enough had (subst (λ p. Performs p b c w l'.exchanges m) (sym same) y));
         within = omega arith;
-        few = omega arith;
         unit = had.unit ∙ x.unit;
         uid = had.uid ∙ x.uid;
       }
@@ -144,3 +143,11 @@ unit_low Four = omega arith
 unit_low Eight = omega arith
 unit_low Sixteen = omega arith
 unit_low ThirtyTwo = omega arith
+
+-- the same of a copying through TLVs, with what stays as it is
+pub record CopiesOn {F : Type 0} {G : Field.Ghosts F} (v : Value) (t₀ t : Tlvs F G) (s₀ s : List ℕ) (done : ℕ) : Type 0 where
+  pub copying : Copying v t₀.call.now.link t.call.now.link (air_in t₀.call.now) (air_in t.call.now) s₀ s done
+  pub at : t.at ≡ v.at + done
+  pub container : t.container ≡ t₀.container
+  pub air : SameAir t₀.call.now t.call.now
+  pub call : t.call.ghost_name ≡ t₀.call.ghost_name

@@ -1,13 +1,16 @@
 pub mod Askings
+pub mod Calls
 pub mod Cases
 pub mod Copies
 pub mod DetectionLaws
 pub mod Detections
 pub mod Headers
+pub mod Told
 pub mod Locates
 pub mod Messages
 pub mod ReadingLaws
 pub mod Readings
 pub mod Replies
+pub mod Takings
 pub mod Truths
 pub mod Walks

@@ -1,5 +1,5 @@
 -- Reading put together from its parts. Assumes nothing.
-use Rattle.std.proofs.Common.{◌≡◌, ℕ, ◌<◌, ◌≤◌, Bool, cond, ltb, List, [], length, Ok, Err, Result, sym, refl, subst}
+use Rattle.std.proofs.Common.{◌≡◌, ℕ, ◌+◌, ◌-◌, ◌<◌, ◌≤◌, Bool, cond, ltb, List, [], length, Ok, Err, Result, sym, refl, subst, arith}
 use Rattle.std.proofs.lemmas.Bool.{eq-eqb, ne_eqb, lt-ltb, le-ltb}
 use Rattle.memory.specs.BlockLength.{bytes_of}
 use Rattle.procedure.specs.Procedure.{Procedure, answer, Air, Performs}
@@ -86,3 +86,9 @@ module _ (end at : ℕ) (l₀ l₁ : Link) (a₀ a₁ : Air) (s : List ℕ) wher
         -- or breaks off
         pub read_broken : (e : Broken) → Copied v l₁ l₂ a₁ a₂ s s' (Err e) → MessageRead end at l₀ l₂ a₀ a₂ s s' (Err e)
         read_broken e y = record { got = y.got; performs = all (Err e) y; left = y.left; long = y.long }
+
+-- one byte on, and the TLV begins one byte before
+pub behind_t : (end at : ℕ) {l l' : Link} {a b : Air} {r : Result Value Stop} → Asked Step.Walk (length_field end (at + 1 - 1)) l l' a b r → Asked Step.Walk (length_field end at) l l' a b r
+behind_t end at {l} {l'} {a} {b} {r} x =
+    let e : at + 1 - 1 ≡ at = omega arith in
+    subst (λ k. Asked Step.Walk (length_field end k) l l' a b r) e x

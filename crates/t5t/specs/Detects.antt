@@ -5,7 +5,7 @@ use Rattle.tag.specs.Means.{longest}
 use Rattle.procedure.specs.Procedure.{Air, Performs}
 use Rattle.shown.specs.declared.container.Place.{Place}
 use Rattle.refusal.specs.declared.cause.Cause.TheVariants.{AnswerSpaceShort}
-use Rattle.t5t.specs.declared.detected.Detected.{Detected}
+use Rattle.t5t.specs.declared.session.Session.{Session}
 use Rattle.t5t.specs.declared.detection.Found.{Found}
 use Rattle.t5t.specs.declared.detection.NotFound.{NotFound}
 use Rattle.refusal.specs.declared.refusal.Refusal.{Refusal}
@@ -14,8 +14,8 @@ use Rattle.t5t.specs.declared.stop.Stop.{Stop}
 use Rattle.t5t.specs.Detection.{detection}
 
 -- what a session says of its tag
-abbrev pub place_of : Detected → BlockLength × Place
-place_of d = (d.unit, record { container = d.container; at = d.at })
+abbrev pub place_of : {S : Type 0} → Session S → BlockLength × Place
+place_of s = (s.unit, s.place)
 
 abbrev pub stop_of : Refusal → Stop
 stop_of r = record { cause = r.cause; step = r.step; block = r.block }

@@ -1,9 +1,14 @@
 pub mod Air
 pub mod Asking
+pub mod Calls
 pub mod Copied
 pub mod Detection
 pub mod Detects
 pub mod Heard
+pub mod Kind
 pub mod Laws
 pub mod Reading
 pub mod Reads
+pub mod Stopped
+pub mod Takes
+pub mod Zeroth

@@ -1,14 +1,12 @@
 // Copying a value, block by block.
-ghost use Rattle.std.specs.Prelude.{◌≡◌, ◌+◌, ◌*◌, ◌<◌, ◌≤◌, length, take, drop};
-ghost use Rattle.memory.specs.BlockLength.{bytes_of};
+ghost use Rattle.std.specs.Prelude.{◌≡◌, ◌+◌, ◌≤◌, length, take, drop};
 ghost use Rattle.space.specs.Space.{put as laid_at};
-ghost use Rattle.tag.specs.Means.{longest};
-ghost use Rattle.t5t.specs.Air.{air_of};
+ghost use Rattle.t5t.specs.Calls.{air_in, SameAir};
 ghost use Rattle.t5t.specs.Copied.{Copied};
 
 use crate::kept::Kept;
-use crate::link::Link;
 use crate::stop::Stop;
+use crate::tlvs::Tlvs;
 use field::Field;
 use refusal::Step;
 use shown::Value;
@@ -18,6 +16,15 @@ use shown::Value;
 pub(crate) struct Broken {
     pub(crate) stop: Stop,
     pub(crate) got: usize,
+}
+
+// Before a byte is got.
+impl From<Stop> for Broken {
+    ghost from_gives = { λ stop broken. broken ≡ record { stop = stop; got = 0 } };
+
+    fn from(stop: Stop) -> Broken {
+        Broken { stop, got: 0 }
+    }
 }
 
 // Puts the bytes of a block from `from` on over those of the message at `at`.
@@ -30,31 +37,29 @@ fn put(message: &mut [u8], at: usize, block: &Kept, from: usize, count: usize)
     message[at..at + count].copy_from_slice(&block.bytes[from..from + count]);
 }
 
-impl Link {
-    pub(crate) fn copy<F: Field>(
-        &mut self,
-        field: &mut F,
-        space: &mut [u8],
-        value: Value,
-        message: &mut [u8],
-    ) -> Result<(), Broken>
-        requires room { longest ≤ length space.old }
-        requires known { value.at + value.long ≤ 65536 * bytes_of self.old.unit }
+impl<F: Field> Tlvs<'_, '_, F> {
+    // Copies the value that is next over the front of the message space.
+    pub(crate) fn copy(&mut self, value: Value, message: &mut [u8]) -> Result<(), Broken>
+        requires next { value.at ≡ self.old.at }
+        requires whole { value.at + value.long ≤ self.old.container.end }
         requires fits { value.long ≤ length message.old }
-        requires few { self.old.exchanges ≤ 8 }
-        ensures { Copied value self.old self.new (air_of F.tags field.old space.old) (air_of F.tags field.new space.new) message.old message.new result }
+        ensures copied { Copied value self.old.call.now.link self.new.call.now.link (air_in self.old.call.now) (air_in self.new.call.now) message.old message.new result }
+        ensures air { SameAir self.old.call.now self.new.call.now }
+        ensures call { self.new.call.ghost_name ≡ self.old.call.ghost_name }
     {
-        let unit = self.unit.bytes();
+        let unit = self.call.link.unit.bytes();
         let first = value.at as usize;
         let length = value.long as usize;
         let mut done = 0usize;
+        // A step goes to the end of a block, so the first may be shorter than the others: no chunks of one length.
         while done < length {
             let at = first + done;
-            let block = match self.block(field, space, Step::Read, (at / unit) as u32) {
+            let count = (unit - at % unit).min(length - done);
+            self.at += count as u32;
+            let block = match self.call.block(Step::Read, (at / unit) as u16) {
                 Ok(block) => block,
                 Err(stop) => return Err(Broken { stop, got: done }),
             };
-            let count = (unit - at % unit).min(length - done);
             put(message, done, &block, at % unit, count);
             done += count;
         }

@@ -1,26 +1,30 @@
 // One exchange, and what comes back of it.
-ghost use Rattle.std.specs.Prelude.{◌≡◌, ◌<◌, ◌≤◌, length};
-ghost use Rattle.tag.specs.Means.{longest};
+ghost use Rattle.std.specs.Prelude.{◌≡◌, ◌≤◌};
 ghost use Rattle.field.specs.Exchange.{Exchange};
 ghost use Rattle.procedure.specs.Frames.{read_frame};
 ghost use Rattle.t5t.specs.Heard.{InSpace, reply_by, Receives};
 ghost use Rattle.t5t.specs.Asking.{replied};
+ghost use Rattle.t5t.specs.Calls.{SameAir, one_more};
 
-use field::{AnswerRefusal, Field, Heard, decode};
+use crate::call::Call;
+use field::{Field, Heard, decode};
 use frames::Frame;
 use refusal::Cause;
-use tag::Uid;
 
-// Sends a frame that reads a block.
-pub(crate) fn send_read<F: Field>(field: &mut F, space: &mut [u8], uid: Uid, block: u32) -> Heard
-    requires room { longest ≤ length space.old }
-    requires known { block < 65536 }
-    ensures { Exchange (F.tags field.old) (F.tags field.new) (read_frame uid.0 block) space.old space.new result }
-{
-    let frame = Frame::read(uid, block as u16);
-    match field.exchange(frame.bytes(), space) {
-        Ok(heard) => heard,
-        Err(_) => unreachable(),
+impl<F: Field> Call<'_, F> {
+    // Sends a frame that reads a block, and counts it.
+    pub(crate) fn send_read(&mut self, block: u16) -> Heard
+        requires { self.old.link.exchanges ≤ 4294967296 }
+        ensures exchange { Exchange (F.tags self.old.field.now) (F.tags self.new.field.now) (read_frame self.old.link.uid.0 block) self.old.space.now self.new.space.now result }
+        ensures link { self.new.link ≡ one_more self.old.link }
+        ensures air { SameAir self.old self.new }
+    {
+        self.link.exchanges += 1;
+        let frame = Frame::read(self.link.uid, block);
+        match self.field.exchange(frame.bytes(), self.space) {
+            Ok(heard) => heard,
+            Err(_) => unreachable!(),
+        }
     }
 }
 
@@ -29,13 +33,9 @@ pub(crate) fn receive(heard: Heard, space: &[u8], expected: usize) -> Result<&[u
     requires { InSpace heard space.now }
     ensures { Receives result (replied expected (reply_by heard space.now)) }
 {
-    let length = match heard {
-        Heard::Nothing => return Err(Cause::Lost),
-        Heard::Several => return Err(Cause::Several),
-        Heard::One(length) => length,
-    };
-    match decode(&space[..length], expected) {
-        Ok(data) => Ok(data),
-        Err(refusal) => Err(Cause::of_answer(refusal)),
+    match heard {
+        Heard::Nothing => Err(Cause::Lost),
+        Heard::Several => Err(Cause::Several),
+        Heard::One(length) => Ok(decode(&space[..length], expected)?),
     }
 }

@@ -1,121 +1,80 @@
 // The L-field of a TLV.
-ghost use Rattle.std.specs.Prelude.{◌≡◌, ◌+◌, ◌*◌, ◌<◌, ◌≤◌, length, IfOk};
-ghost use Rattle.memory.specs.BlockLength.{bytes_of};
-ghost use Rattle.tag.specs.Means.{longest};
+ghost use Rattle.std.specs.Prelude.{◌≡◌, ◌+◌, ◌-◌, ◌≤◌, IfOk};
 ghost use Rattle.shown.specs.Walk.{whole, before, two_bytes, long_length, length_field};
-ghost use Rattle.t5t.specs.Air.{air_of};
-ghost use Rattle.t5t.specs.Asking.{Asked, stopped};
+ghost use Rattle.t5t.specs.Asking.{stopped};
+ghost use Rattle.t5t.specs.Takes.{Takes};
 ghost use Rattle.refusal.specs.declared.step.Step.TheVariants as Step;
 
-use crate::link::Link;
 use crate::stop::Stop;
+use crate::tlvs::Tlvs;
 use field::Field;
 use frames::word;
-use refusal::Step;
-use shown::{Flaw, Value};
+use refusal::{Cause, Step};
+use shown::Value;
 
 // Behind it the length has two bytes.
 const LONG: u8 = 0xFF;
 
 const NO_LENGTH: u16 = 0xFFFF;
 
-impl Link {
-    // A byte before the end of the TLVs.
-    fn byte_before<F: Field>(
-        &mut self,
-        field: &mut F,
-        space: &mut [u8],
-        end: u32,
-        at: u32,
-    ) -> Result<u8, Stop>
-        requires room { longest ≤ length space.old }
-        requires known { end ≤ 65536 * bytes_of self.old.unit }
-        requires few { self.old.exchanges ≤ 4294967296 }
-        ensures asked { Asked Step.Walk (before end at) self.old self.new (air_of F.tags field.old space.old) (air_of F.tags field.new space.new) result }
-        ensures few { self.new.exchanges ≤ self.old.exchanges + 1 }
+impl<F: Field> Tlvs<'_, '_, F> {
+    // The next byte, unless the TLVs end before it.
+    pub(crate) fn next_byte(&mut self) -> Result<u8, Stop>
+        ensures takes { Takes (before self.old.container.end self.old.at) self.old self.new result }
+        ensures passed { IfOk result (λ _. self.new.at ≡ self.old.at + 1) }
     {
-        if at >= end {
-            return Err(self.stop(Step::Walk, Flaw::Malformed));
+        let at = self.at;
+        if at >= self.container.end {
+            return Err(self.call.link.stop(Step::Walk, Cause::Malformed));
         }
-        self.byte(field, space, Step::Walk, at)
+        self.at += 1;
+        self.call.byte(Step::Walk, at)
     }
 
-    // Two bytes before the end, the most significant first.
-    fn two_bytes<F: Field>(
-        &mut self,
-        field: &mut F,
-        space: &mut [u8],
-        end: u32,
-        at: u32,
-    ) -> Result<u16, Stop>
-        requires room { longest ≤ length space.old }
-        requires known { end ≤ 65536 * bytes_of self.old.unit }
-        requires low { at ≤ 4194304 }
-        requires few { self.old.exchanges ≤ 4294967295 }
-        ensures asked { Asked Step.Walk (two_bytes end at) self.old self.new (air_of F.tags field.old space.old) (air_of F.tags field.new space.new) result }
-        ensures few { self.new.exchanges ≤ self.old.exchanges + 2 }
+    // The next two bytes, the most significant first.
+    fn two_bytes(&mut self) -> Result<u16, Stop>
+        ensures takes { Takes (two_bytes self.old.container.end self.old.at) self.old self.new result }
+        ensures passed { IfOk result (λ _. self.new.at ≡ self.old.at + 2) }
     {
-        let high = self.byte_before(field, space, end, at)?;
-        let low = self.byte_before(field, space, end, at + 1)?;
+        let high = self.next_byte()?;
+        let low = self.next_byte()?;
         Ok(word(high, low))
     }
 
-    // A value that does not pass the end.
-    fn whole(&self, end: u32, at: u32, long: u32) -> Result<Value, Stop>
-        requires low { at ≤ 4194304 }
-        requires short { long ≤ 65535 }
-        ensures whole { result ≡ stopped Step.Walk self.now.kept (whole end at long) }
-        ensures within { IfOk result (λ v. (v.at + v.long ≤ end) × (at ≤ v.at)) }
+    // A value that is next, and does not pass the end.
+    fn whole(&self, long: u16) -> Result<Value, Stop>
+        ensures whole { result ≡ stopped Step.Walk self.now.call.now.link.kept (whole self.now.container.end self.now.at long) }
+        ensures within { IfOk result (λ v. (v.at + v.long ≤ self.now.container.end) × (v.at ≡ self.now.at)) }
     {
-        if at + long > end {
-            return Err(self.stop(Step::Walk, Flaw::Malformed));
+        let long = u32::from(long);
+        if long > self.container.end - self.at {
+            return Err(self.call.link.stop(Step::Walk, Cause::Malformed));
         }
-        Ok(Value { at, long })
+        Ok(Value { at: self.at, long })
     }
 
     // The length behind FFh.
-    fn long_length<F: Field>(
-        &mut self,
-        field: &mut F,
-        space: &mut [u8],
-        end: u32,
-        at: u32,
-    ) -> Result<Value, Stop>
-        requires room { longest ≤ length space.old }
-        requires known { end ≤ 65536 * bytes_of self.old.unit }
-        requires low { at ≤ 4194302 }
-        requires few { self.old.exchanges ≤ 4294967295 }
-        ensures asked { Asked Step.Walk (long_length end at) self.old self.new (air_of F.tags field.old space.old) (air_of F.tags field.new space.new) result }
-        ensures few { self.new.exchanges ≤ self.old.exchanges + 2 }
-        ensures within { IfOk result (λ v. (v.at + v.long ≤ end) × (at + 2 ≤ v.at)) }
+    fn long_length(&mut self) -> Result<Value, Stop>
+        ensures takes { Takes (long_length self.old.container.end self.old.at) self.old self.new result }
+        ensures within { IfOk result (λ v. (v.at + v.long ≤ self.new.container.end) × (v.at ≡ self.new.at)) }
     {
-        let long = self.two_bytes(field, space, end, at)?;
+        let long = self.two_bytes()?;
         if long == NO_LENGTH {
-            return Err(self.stop(Step::Walk, Flaw::Malformed));
+            return Err(self.call.link.stop(Step::Walk, Cause::Malformed));
         }
-        self.whole(end, at + 2, long as u32)
+        self.whole(long)
     }
 
-    // The L-field of the TLV at an address: where its value stands.
-    pub(crate) fn length_field<F: Field>(
-        &mut self,
-        field: &mut F,
-        space: &mut [u8],
-        end: u32,
-        at: u32,
-    ) -> Result<Value, Stop>
-        requires room { longest ≤ length space.old }
-        requires known { end ≤ 65536 * bytes_of self.old.unit }
-        requires low { at ≤ 4194300 }
-        requires few { self.old.exchanges ≤ 4294967294 }
-        ensures asked { Asked Step.Walk (length_field end at) self.old self.new (air_of F.tags field.old space.old) (air_of F.tags field.new space.new) result }
-        ensures few { self.new.exchanges ≤ self.old.exchanges + 3 }
-        ensures within { IfOk result (λ v. (v.at + v.long ≤ end) × (at + 2 ≤ v.at)) }
+    // The L-field of the TLV whose T was the last byte: where its value stands.
+    pub(crate) fn length_field(&mut self) -> Result<Value, Stop>
+        requires { 1 ≤ self.old.at }
+        ensures takes { Takes (length_field self.old.container.end (self.old.at - 1)) self.old self.new result }
+        ensures within { IfOk result (λ v. (v.at + v.long ≤ self.new.container.end) × (v.at ≡ self.new.at) × (self.old.at + 1 ≤ v.at)) }
     {
-        let long = self.byte_before(field, space, end, at + 1)?;
+        let long = self.next_byte()?;
         if long == LONG {
-            return self.long_length(field, space, end, at + 2);
+            return self.long_length();
         }
-        self.whole(end, at + 2, long as u32)
+        self.whole(u16::from(long))
     }
 }

@@ -1,8 +1,9 @@
-// A call's way to its tag: whom it speaks to, the block last read, and how many frames it has sent.
+// How far a call has come with its tag.
 use crate::kept::Kept;
 use memory::BlockLength;
 use tag::Uid;
 
+// Whom it speaks to, the block last read, and how many frames it has sent.
 #[derive(Clone, Copy)]
 pub(crate) struct Link {
     pub(crate) uid: Uid,

@@ -1,16 +1,14 @@
 // Finding a tag's message.
-ghost use Rattle.std.specs.Prelude.{◌≡◌, ◌+◌, ◌*◌, ◌≤◌, length, IfOk, None};
+ghost use Rattle.std.specs.Prelude.{◌≡◌, ◌+◌, ◌≤◌, IfOk};
 ghost use Rattle.memory.specs.BlockLength.{bytes_of};
-ghost use Rattle.tag.specs.Means.{longest};
 ghost use Rattle.procedure.specs.Procedure.{Performs};
 ghost use Rattle.shown.specs.Container.{limit};
-ghost use Rattle.t5t.specs.Air.{air_of};
-ghost use Rattle.t5t.specs.Heard.{InSpace, reply_by};
-ghost use Rattle.t5t.specs.Detection.{unit_of, with_unit, detection, FirstRead, unit_by};
+ghost use Rattle.t5t.specs.Calls.{air_in, SameAir};
+ghost use Rattle.t5t.specs.Detection.{with_unit, detection, FirstRead, unit_by};
 
-use crate::exchange::{receive, send_read};
+use crate::call::Call;
+use crate::exchange::receive;
 use crate::kept::Kept;
-use crate::link::Link;
 use crate::stop::Stop;
 use field::{Field, Heard};
 use memory::BlockLength;
@@ -21,33 +19,29 @@ use shown::Place;
 fn unit_of(heard: Heard) -> BlockLength
     ensures { result ≡ unit_by heard }
 {
-    let length = match heard {
-        Heard::Nothing | Heard::Several => return BlockLength::Four,
-        Heard::One(length) => length,
+    let Heard::One(length) = heard else {
+        return BlockLength::Four;
     };
-    match BlockLength::new(length.saturating_sub(1)) {
-        Ok(unit) => unit,
-        Err(_) => BlockLength::Four,
-    }
+    BlockLength::new(length.saturating_sub(1)).unwrap_or(BlockLength::Four)
 }
 
-impl Link {
+impl<F: Field> Call<'_, F> {
     // Reads block 0, which tells the block length.
-    fn first_block<F: Field>(&mut self, field: &mut F, space: &mut [u8]) -> Result<Kept, Stop>
-        requires room { longest ≤ length space.old }
-        requires few { self.old.exchanges ≡ 0 }
-        ensures read { FirstRead self.old self.new (air_of F.tags field.old space.old) (air_of F.tags field.new space.new) result }
+    fn first_block(&mut self) -> Result<Kept, Stop>
+        requires { self.old.link.exchanges ≡ 0 }
+        ensures read { FirstRead self.old.link self.new.link (air_in self.old) (air_in self.new) result }
         ensures first { IfOk result (λ k. k.number ≡ 0) }
-        ensures few { self.new.exchanges ≡ 1 }
+        ensures few { self.new.link.exchanges ≡ 1 }
+        ensures air { SameAir self.old self.new }
     {
-        self.exchanges += 1;
-        let heard = send_read(field, space, self.uid, 0);
+        let heard = self.send_read(0);
         let unit = unit_of(heard);
+        let space = &mut *self.space;
         match receive(heard, space, unit.bytes()) {
             Ok(block) => {
                 let kept = Kept::new(0, block);
-                self.unit = unit;
-                self.kept = Some(kept);
+                self.link.unit = unit;
+                self.link.kept = Some(kept);
                 Ok(kept)
             }
             Err(cause) => Err(Stop {
@@ -59,19 +53,15 @@ impl Link {
     }
 
     // Where the message is.
-    pub(crate) fn locate<F: Field>(
-        &mut self,
-        field: &mut F,
-        space: &mut [u8],
-    ) -> Result<Place, Stop>
-        requires room { longest ≤ length space.old }
-        requires few { self.old.exchanges ≡ 0 }
-        ensures located { Performs (detection self.old.uid.0) (air_of F.tags field.old space.old) (air_of F.tags field.new space.new) (with_unit result self.new.unit) 0 self.new.exchanges }
-        ensures within { IfOk result (λ p. (p.container.begin ≤ p.at) × (p.at + 2 ≤ p.container.end) × (p.container.end ≤ limit p.container.header (bytes_of self.new.unit))) }
-        ensures uid { self.new.uid ≡ self.old.uid }
+    pub(crate) fn locate(&mut self) -> Result<Place, Stop>
+        requires { self.old.link.exchanges ≡ 0 }
+        ensures located { Performs (detection self.old.link.uid.0) (air_in self.old) (air_in self.new) (with_unit result self.new.link.unit) 0 self.new.link.exchanges }
+        ensures within { IfOk result (λ p. (p.container.begin ≤ p.at) × (p.at + 2 ≤ p.container.end) × (p.container.end ≤ limit p.container.header (bytes_of self.new.link.unit))) }
+        ensures uid { self.new.link.uid ≡ self.old.link.uid }
+        ensures air { SameAir self.old self.new }
     {
-        let block = self.first_block(field, space)?;
-        let container = self.container(field, space, block)?;
-        self.walk(field, space, container)
+        let block = self.first_block()?;
+        let container = self.container(block)?;
+        self.walk(container)
     }
 }

@@ -1,64 +1,53 @@
 // The message of a tag whose message TLV is known.
-ghost use Rattle.std.specs.Prelude.{◌≡◌, ◌+◌, ◌*◌, ◌≤◌, length};
+ghost use Rattle.std.specs.Prelude.{◌≡◌, ◌+◌, ◌*◌, ◌≤◌};
 ghost use Rattle.memory.specs.BlockLength.{bytes_of};
-ghost use Rattle.tag.specs.Means.{longest};
-ghost use Rattle.t5t.specs.Air.{air_of};
-ghost use Rattle.t5t.specs.Asking.{last_of};
+ghost use Rattle.t5t.specs.Calls.{air_in, SameAir};
 ghost use Rattle.t5t.specs.Copied.{MessageRead};
-ghost use Rattle.refusal.specs.declared.step.Step.TheVariants as Step;
 
+use crate::call::Call;
 use crate::copying::Broken;
-use crate::link::Link;
-use crate::stop::Stop;
+use crate::tlvs::Tlvs;
 use field::Field;
 use refusal::{Cause, Step};
+use shown::Place;
 
-impl Link {
-    // Where a call stops for what its L-field says.
-    fn refused(&self, cause: Cause) -> Stop
-        ensures { result ≡ record { cause = cause; step = Step.Walk; block = last_of self.now.kept } }
+impl<F: Field> Tlvs<'_, '_, F> {
+    // Reads the message whose TLV is next; its length.
+    pub(crate) fn read_message(&mut self, message: &mut [u8]) -> Result<usize, Broken>
+        requires { self.old.at + 2 ≤ self.old.container.end }
+        ensures read { MessageRead self.old.container.end self.old.at self.old.call.now.link self.new.call.now.link (air_in self.old.call.now) (air_in self.new.call.now) message.old message.new result }
+        ensures air { SameAir self.old.call.now self.new.call.now }
+        ensures call { self.new.call.ghost_name ≡ self.old.call.ghost_name }
     {
-        let block = match self.kept {
-            Some(kept) => kept.number,
-            None => 0,
-        };
-        Stop {
-            cause,
-            step: Step::Walk,
-            block,
-        }
-    }
-
-    // Reads the message whose TLV is at an address; its length.
-    pub(crate) fn read_message<F: Field>(
-        &mut self,
-        field: &mut F,
-        space: &mut [u8],
-        end: u32,
-        at: u32,
-        message: &mut [u8],
-    ) -> Result<usize, Broken>
-        requires room { longest ≤ length space.old }
-        requires known { end ≤ 65536 * bytes_of self.old.unit }
-        requires low { at ≤ 4194300 }
-        requires few { self.old.exchanges ≡ 0 }
-        ensures { MessageRead end at self.old self.new (air_of F.tags field.old space.old) (air_of F.tags field.new space.new) message.old message.new result }
-    {
-        let value = match self.length_field(field, space, end, at) {
-            Ok(value) => value,
-            Err(stop) => return Err(Broken { stop, got: 0 }),
-        };
+        // behind its T
+        self.at += 1;
+        let value = self.length_field()?;
         if value.long == 0 {
-            let stop = self.refused(Cause::Empty);
-            return Err(Broken { stop, got: 0 });
+            return Err(self.call.link.stop(Step::Walk, Cause::Empty).into());
         }
         if message.len() < value.long as usize {
-            let stop = self.refused(Cause::MessageSpaceShort { length: value.long });
-            return Err(Broken { stop, got: 0 });
+            let short = Cause::MessageSpaceShort { length: value.long };
+            return Err(self.call.link.stop(Step::Walk, short).into());
         }
-        match self.copy(field, space, value, message) {
-            Ok(()) => Ok(value.long as usize),
-            Err(broken) => Err(broken),
-        }
+        self.copy(value, message)?;
+        Ok(value.long as usize)
+    }
+}
+
+impl<F: Field> Call<'_, F> {
+    // Reads the message whose TLV is at a place; its length.
+    pub(crate) fn read_message(&mut self, place: Place, message: &mut [u8]) -> Result<usize, Broken>
+        requires known { place.container.end ≤ 65536 * bytes_of self.old.link.unit }
+        requires holds { place.at + 2 ≤ place.container.end }
+        requires few { self.old.link.exchanges ≡ 0 }
+        ensures read { MessageRead place.container.end place.at self.old.link self.new.link (air_in self.old) (air_in self.new) message.old message.new result }
+        ensures air { SameAir self.old self.new }
+    {
+        let mut tlvs = Tlvs {
+            call: self,
+            container: place.container,
+            at: place.at,
+        };
+        tlvs.read_message(message)
     }
 }

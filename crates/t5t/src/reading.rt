@@ -1,105 +1,77 @@
 // Reading the message of a tag that was detected.
-ghost use Rattle.std.specs.Prelude.{◌≡◌, ◌+◌, ◌*◌, ◌≤◌, length};
+ghost use Rattle.std.specs.Prelude.{◌≡◌, ◌+◌, ◌*◌, ◌≤◌, None};
 ghost use Rattle.memory.specs.BlockLength.{bytes_of};
 ghost use Rattle.t5t.specs.Air.{air_of};
+ghost use Rattle.t5t.specs.Calls.{air_in, SameAir};
 ghost use Rattle.t5t.specs.Laws.{ReadingLaws};
 ghost use Rattle.t5t.specs.Reads.{Reads};
 
-use crate::detected::Detected;
+use crate::call::Call;
 use crate::link::Link;
-use crate::target::Target;
+use crate::session::Session;
+use crate::stop::Stop;
 use field::Field;
-use refusal::{Cause, Refusal, Step};
+use refusal::Refusal;
 use shown::Place;
 use tag::LONGEST_ANSWER;
 
 // A message that was read: so many bytes in the front of the message space.
-#[derive(Clone, Copy)]
+#[derive(Clone, Copy, PartialEq, Eq, Debug)]
 pub struct Received {
     pub length: usize,
     pub exchanges: u64,
 }
 
 // A reading that is refused: so many bytes were got, and lie in the front of the message space.
-#[derive(Clone, Copy)]
+#[derive(Clone, Copy, PartialEq, Eq, Debug)]
 pub struct NotRead {
     pub refusal: Refusal,
     pub got: usize,
 }
 
-// Reads with the numbers of a session, as the procedure says.
-fn read_at<F: Field>(
-    target: Target,
-    field: &mut F,
-    space: &mut [u8],
-    message: &mut [u8],
-) -> Result<Received, NotRead>
-    requires known { target.place.container.end ≤ 65536 * bytes_of target.unit }
-    requires holds { target.place.at + 2 ≤ target.place.container.end }
-    ensures { Reads target.uid.0 (bytes_of target.unit) target.place.container.end target.place.at (air_of F.tags field.old space.old) (air_of F.tags field.new space.new) message.old message.new result }
-{
-    if space.len() < LONGEST_ANSWER {
-        return Err(NotRead {
-            refusal: Refusal {
-                cause: Cause::AnswerSpaceShort,
-                step: Step::Before,
-                block: 0,
-                exchanges: 0,
-            },
-            got: 0,
-        });
-    }
-    let mut link = Link {
-        uid: target.uid,
-        unit: target.unit,
-        kept: None,
-        exchanges: 0,
-    };
-    let end = target.place.container.end;
-    match link.read_message(field, space, end, target.place.at, message) {
-        Ok(length) => Ok(Received {
-            length,
-            exchanges: link.exchanges,
-        }),
-        Err(broken) => Err(NotRead {
-            refusal: Refusal {
-                cause: broken.stop.cause,
-                step: broken.stop.step,
-                block: broken.stop.block,
-                exchanges: link.exchanges,
-            },
-            got: broken.got,
-        }),
-    }
-}
-
-// What it then promises.
-pub(crate) fn read_with<F: Field>(
-    target: Target,
-    field: &mut F,
-    space: &mut [u8],
-    message: &mut [u8],
-) -> Result<Received, NotRead>
-    requires known { target.place.container.end ≤ 65536 * bytes_of target.unit }
-    requires holds { target.place.at + 2 ≤ target.place.container.end }
-    ensures reads { Reads target.uid.0 (bytes_of target.unit) target.place.container.end target.place.at (air_of F.tags field.old space.old) (air_of F.tags field.new space.new) message.old message.new result }
-    ensures laws { ReadingLaws target.uid.0 (bytes_of target.unit) target.place (air_of F.tags field.old space.old) (air_of F.tags field.new space.new) message.old message.new result }
-{
-    read_at(target, field, space, message)
-}
-
-impl Detected {
-    fn target(&self) -> Target
-        ensures { result ≡ record { uid = self.now.uid; unit = self.now.unit; place = record { container = self.now.container; at = self.now.at } } }
+impl<F: Field> Call<'_, F> {
+    // Reads the message whose TLV is at a place, as the procedure says.
+    fn read(&mut self, place: Place, message: &mut [u8]) -> Result<Received, NotRead>
+        requires known { place.container.end ≤ 65536 * bytes_of self.old.link.unit }
+        requires holds { place.at + 2 ≤ place.container.end }
+        requires begins { (self.old.link.kept ≡ None) × (self.old.link.exchanges ≡ 0) }
+        ensures reads { Reads self.old.link.uid.0 (bytes_of self.old.link.unit) place.container.end place.at (air_in self.old) (air_in self.new) message.old message.new result }
+        ensures air { SameAir self.old self.new }
     {
-        Target {
+        let read = self.read_message(place, message);
+        let exchanges = self.link.exchanges;
+        match read {
+            Ok(length) => Ok(Received { length, exchanges }),
+            Err(broken) => Err(NotRead {
+                refusal: broken.stop.refusal(exchanges),
+                got: broken.got,
+            }),
+        }
+    }
+}
+
+impl<S> Session<S> {
+    // Reads as the procedure says.
+    fn read_there<F: Field>(
+        &self,
+        field: &mut F,
+        space: &mut [u8],
+        message: &mut [u8],
+    ) -> Result<Received, NotRead>
+        ensures { Reads self.now.uid.0 (bytes_of self.now.unit) self.now.place.container.end self.now.place.at (air_of F.tags field.old space.old) (air_of F.tags field.new space.new) message.old message.new result }
+    {
+        if space.len() < LONGEST_ANSWER {
+            let refusal = Stop::ANSWER_SPACE_SHORT.refusal(0);
+            return Err(NotRead { refusal, got: 0 });
+        }
+        let link = Link {
             uid: self.uid,
             unit: self.unit,
-            place: Place {
-                container: self.container,
-                at: self.at,
-            },
-        }
+            kept: None,
+            exchanges: 0,
+        };
+        let mut call = Call { field, space, link };
+        call.read(self.place, message)
     }
 
     // Reads the message into the front of the message space.
@@ -109,9 +81,9 @@ impl Detected {
         space: &mut [u8],
         message: &mut [u8],
     ) -> Result<Received, NotRead>
-        ensures reads { Reads self.now.uid.0 (bytes_of self.now.unit) self.now.container.end self.now.at (air_of F.tags field.old space.old) (air_of F.tags field.new space.new) message.old message.new result }
-        ensures laws { ReadingLaws self.now.uid.0 (bytes_of self.now.unit) (record { container = self.now.container; at = self.now.at }) (air_of F.tags field.old space.old) (air_of F.tags field.new space.new) message.old message.new result }
+        ensures reads { Reads self.now.uid.0 (bytes_of self.now.unit) self.now.place.container.end self.now.place.at (air_of F.tags field.old space.old) (air_of F.tags field.new space.new) message.old message.new result }
+        ensures laws { ReadingLaws self.now.uid.0 (bytes_of self.now.unit) self.now.place (air_of F.tags field.old space.old) (air_of F.tags field.new space.new) message.old message.new result }
     {
-        read_with(self.target(), field, space, message)
+        self.read_there(field, space, message)
     }
 }
