@@ -7,6 +7,7 @@ pub mod Detections
 pub mod Headers
 pub mod Told
 pub mod Locates
+pub mod Mapped
 pub mod Messages
 pub mod ReadingLaws
 pub mod Readings

@@ -1,9 +1,10 @@
 -- A call, as its exchanges see it.
-use Rattle.std.specs.Prelude.{◌≡◌, ◌+◌}
+use Rattle.std.specs.Prelude.{◌≡◌, ◌+◌, Option}
 use Rattle.field.specs.declared.field.Field as Field
 use Rattle.procedure.specs.Procedure.{Air}
 use Rattle.t5t.specs.Air.{air_of}
 use Rattle.t5t.specs.declared.call.Call.{Call}
+use Rattle.t5t.specs.declared.kept.Kept.{Kept}
 use Rattle.t5t.specs.declared.link.Link.{Link}
 
 -- the air of its field and its answer space
@@ -18,3 +19,7 @@ pub record SameAir {F : Type 0} {G : Field.Ghosts F} (c c' : Call F G) : Type 0 
 -- one frame more is counted
 abbrev pub one_more : Link → Link
 one_more l = record { uid = l.uid; unit = l.unit; kept = l.kept; exchanges = l.exchanges + 1 }
+
+-- with the block that is kept then
+abbrev pub keeping : Link → Option Kept → Link
+keeping l kept = record { uid = l.uid; unit = l.unit; kept = kept; exchanges = l.exchanges }

@@ -73,7 +73,7 @@ impl<F: Field> Call<'_, F> {
     {
         let [magic, access, mlen, features, rest @ ..] = &block.bytes[..self.link.unit.bytes()]
         else {
-            return unreachable();
+            unreachable!();
         };
         let header = Header {
             magic: *magic,
@@ -81,9 +81,9 @@ impl<F: Field> Call<'_, F> {
             mlen: *mlen,
             features: *features,
         };
-        match header.checked() {
-            Ok(header) => self.sized(header, rest),
-            Err(flaw) => Err(self.link.stop(Step::Container, flaw.into())),
-        }
+        let header = header
+            .checked()
+            .map_err(|flaw| self.link.stop(Step::Container, flaw.into()))?;
+        self.sized(header, rest)
     }
 }

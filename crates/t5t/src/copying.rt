@@ -56,10 +56,10 @@ impl<F: Field> Tlvs<'_, '_, F> {
             let at = first + done;
             let count = (unit - at % unit).min(length - done);
             self.at += count as u32;
-            let block = match self.call.block(Step::Read, (at / unit) as u16) {
-                Ok(block) => block,
-                Err(stop) => return Err(Broken { stop, got: done }),
-            };
+            let block = self
+                .call
+                .block(Step::Read, (at / unit) as u16)
+                .map_err(|stop| Broken { stop, got: done })?;
             put(message, done, &block, at % unit, count);
             done += count;
         }

@@ -71,12 +71,20 @@ impl Sighted {
         }
     }
 
+    // What it then promises in the words of tags and messages.
+    fn find_lawfully<F: Field>(self, field: &mut F, space: &mut [u8]) -> Result<Found, NotFound>
+        ensures detects { Detects self.uid.0 (air_of F.tags field.old space.old) (air_of F.tags field.new space.new) result }
+        ensures laws { DetectionLaws self.uid.0 (air_of F.tags field.old space.old) (air_of F.tags field.new space.new) result }
+    {
+        self.find(field, space)
+    }
+
     // Finds the tag's message.
     pub fn detect<F: Field>(self, field: &mut F, space: &mut [u8]) -> Result<Found, NotFound>
         ensures detects { Detects self.uid.0 (air_of F.tags field.old space.old) (air_of F.tags field.new space.new) result }
         ensures laws { DetectionLaws self.uid.0 (air_of F.tags field.old space.old) (air_of F.tags field.new space.new) result }
     {
-        self.find(field, space)
+        self.find_lawfully(field, space)
     }
 }
 

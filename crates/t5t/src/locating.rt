@@ -7,7 +7,6 @@ ghost use Rattle.t5t.specs.Calls.{air_in, SameAir};
 ghost use Rattle.t5t.specs.Detection.{with_unit, detection, FirstRead, unit_by};
 
 use crate::call::Call;
-use crate::exchange::receive;
 use crate::kept::Kept;
 use crate::stop::Stop;
 use field::{Field, Heard};
@@ -35,21 +34,8 @@ impl<F: Field> Call<'_, F> {
         ensures air { SameAir self.old self.new }
     {
         let heard = self.send_read(0);
-        let unit = unit_of(heard);
-        let space = &mut *self.space;
-        match receive(heard, space, unit.bytes()) {
-            Ok(block) => {
-                let kept = Kept::new(0, block);
-                self.link.unit = unit;
-                self.link.kept = Some(kept);
-                Ok(kept)
-            }
-            Err(cause) => Err(Stop {
-                cause,
-                step: Step::Container,
-                block: 0,
-            }),
-        }
+        self.link.unit = unit_of(heard);
+        self.keep(Step::Container, 0, heard)
     }
 
     // Where the message is.

@@ -74,6 +74,19 @@ impl<S> Session<S> {
         call.read(self.place, message)
     }
 
+    // What it then promises in the words of tags and messages.
+    fn read_lawfully<F: Field>(
+        &self,
+        field: &mut F,
+        space: &mut [u8],
+        message: &mut [u8],
+    ) -> Result<Received, NotRead>
+        ensures reads { Reads self.now.uid.0 (bytes_of self.now.unit) self.now.place.container.end self.now.place.at (air_of F.tags field.old space.old) (air_of F.tags field.new space.new) message.old message.new result }
+        ensures laws { ReadingLaws self.now.uid.0 (bytes_of self.now.unit) self.now.place (air_of F.tags field.old space.old) (air_of F.tags field.new space.new) message.old message.new result }
+    {
+        self.read_there(field, space, message)
+    }
+
     // Reads the message into the front of the message space.
     pub fn read<F: Field>(
         &self,
@@ -84,6 +97,6 @@ impl<S> Session<S> {
         ensures reads { Reads self.now.uid.0 (bytes_of self.now.unit) self.now.place.container.end self.now.place.at (air_of F.tags field.old space.old) (air_of F.tags field.new space.new) message.old message.new result }
         ensures laws { ReadingLaws self.now.uid.0 (bytes_of self.now.unit) self.now.place (air_of F.tags field.old space.old) (air_of F.tags field.new space.new) message.old message.new result }
     {
-        self.read_there(field, space, message)
+        self.read_lawfully(field, space, message)
     }
 }

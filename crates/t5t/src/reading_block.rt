@@ -2,15 +2,16 @@
 ghost use Rattle.std.specs.Prelude.{◌≡◌, ◌+◌, ◌*◌, ◌<◌, ◌≤◌};
 ghost use Rattle.memory.specs.BlockLength.{bytes_of};
 ghost use Rattle.shown.specs.Asks.{just_byte};
-ghost use Rattle.t5t.specs.Asking.{kept_at, BlockRead, Had, Asked};
-ghost use Rattle.t5t.specs.Calls.{air_in, SameAir};
+ghost use Rattle.t5t.specs.Asking.{replied, received, kept_at, kept_after, BlockRead, Had, Asked};
+ghost use Rattle.t5t.specs.Calls.{air_in, SameAir, keeping};
+ghost use Rattle.t5t.specs.Heard.{InSpace, reply_by};
 
 use crate::call::Call;
 use crate::exchange::receive;
 use crate::kept::Kept;
 use crate::link::Link;
 use crate::stop::Stop;
-use field::Field;
+use field::{Field, Heard};
 use refusal::Step;
 
 impl Link {
@@ -23,6 +24,25 @@ impl Link {
 }
 
 impl<F: Field> Call<'_, F> {
+    // Keeps the block in the answer that was heard.
+    pub(crate) fn keep(&mut self, step: Step, number: u16, heard: Heard) -> Result<Kept, Stop>
+        requires { InSpace heard self.old.space.now }
+        ensures answer { result ≡ received step number (replied (bytes_of self.old.link.unit) (reply_by heard self.old.space.now)) }
+        ensures link { self.new.link ≡ keeping self.old.link (kept_after result self.old.link.kept) }
+        ensures stays { air_in self.new ≡ air_in self.old }
+        ensures air { SameAir self.old self.new }
+    {
+        let space = &mut *self.space;
+        let block = receive(heard, space, self.link.unit.bytes()).map_err(|cause| Stop {
+            cause,
+            step,
+            block: u32::from(number),
+        })?;
+        let kept = Kept::new(number, block);
+        self.link.kept = Some(kept);
+        Ok(kept)
+    }
+
     // Reads a block, which is kept then.
     fn read_block(&mut self, step: Step, number: u16) -> Result<Kept, Stop>
         requires { self.old.link.exchanges ≤ 4294967296 }
@@ -31,19 +51,7 @@ impl<F: Field> Call<'_, F> {
         ensures air { SameAir self.old self.new }
     {
         let heard = self.send_read(number);
-        let space = &mut *self.space;
-        match receive(heard, space, self.link.unit.bytes()) {
-            Ok(block) => {
-                let kept = Kept::new(number, block);
-                self.link.kept = Some(kept);
-                Ok(kept)
-            }
-            Err(cause) => Err(Stop {
-                cause,
-                step,
-                block: u32::from(number),
-            }),
-        }
+        self.keep(step, number, heard)
     }
 
     // The block of that number: the one that is kept, or it is read.

@@ -1,6 +1,6 @@
 use Rattle.memory.specs.BlockLength.{bytes_of}
 use Rattle.t5t.proofs.ReadingLaws.{reading_laws}
-use Rattle.t5t.proofs.session.Session.read.Goals as goal
+use Rattle.t5t.proofs.session.Session.read_lawfully.Goals as goal
 
 pub returns-clause-laws : goal.returns-clause-laws
 returns-clause-laws g c =
