@@ -16,7 +16,7 @@ pub enum Format {
 }
 
 impl Format {
-    // The format that the low three bits of `flags` name.
+    // The format that the low three bits of `flags` name. No `From<u8>`: that would hide that the upper five count for nothing.
     pub fn from_flags(flags: u8) -> Format
         ensures { result ≡ format_of flags }
     {
