@@ -3,6 +3,7 @@ pub mod Composes
 pub mod Counted
 pub mod Described
 pub mod Encoded
+pub mod Filled
 pub mod Fitted
 pub mod Flags
 pub mod ReadBack

@@ -1,9 +1,6 @@
 // A record's fields, and how they are laid down as bytes.
 ghost use Rattle.std.specs.Prelude.{◌≡◌, ℕ, ◌+◌, ◌^◌, ◌<◌, ◌≤◌, length, if◌then◌else◌};
-ghost use Rattle.composer.specs.Fields.{content_of, Brief};
 ghost use Rattle.header.specs.Format.{number as number_of};
-ghost use Rattle.ndef.specs.Reader.{entry_of};
-ghost use Rattle.ndef.specs.Reading.{content};
 ghost use Rattle.composer.specs.Message.{short, named, header_byte, payload_count, id_count, encoded, encoded_length};
 ghost use Rattle.space.specs.Space.{put as laid_at};
 
@@ -17,6 +14,8 @@ pub(crate) struct Fields<'a> {
     pub(crate) kind: &'a [u8],
     pub(crate) id: &'a [u8],
     pub(crate) payload: &'a [u8],
+    ghost kind_is_brief: { length kind.now ≤ 255 },
+    ghost id_is_brief: { length id.now ≤ 255 },
 }
 
 // The bit, where it is on.
@@ -38,8 +37,14 @@ fn put(space: &mut [u8], at: usize, bytes: &[u8]) -> usize
 }
 
 impl<'a> Fields<'a> {
-    // The fields of a record, without their places.
+    ghost use Rattle.composer.specs.Fields.{content_of};
+    ghost use Rattle.ndef.specs.Reader.{entry_of};
+    ghost use Rattle.ndef.specs.Reading.{content};
+
+    // The fields of a record that was read, without their places.
     pub(crate) fn of_record(record: &Record<'a>) -> Fields<'a>
+        requires kind_is_brief { length «record».now.kind.bytes.now ≤ 255 }
+        requires id_is_brief { length «record».now.id.bytes.now ≤ 255 }
         ensures { content_of result ≡ content (entry_of «record».now) }
     {
         Fields {
@@ -52,6 +57,8 @@ impl<'a> Fields<'a> {
 }
 
 impl Fields<'_> {
+    ghost use Rattle.composer.specs.Fields.{content_of};
+
     // SR: the payload's length takes one byte.
     fn is_short(&self) -> bool
         ensures { result ≡ short (content_of self.now) }
@@ -68,7 +75,6 @@ impl Fields<'_> {
 
     // How many bytes the record takes.
     pub(crate) fn encoded_length(&self) -> usize
-        requires { Brief (content_of self.now) }
         ensures { result ≡ encoded_length (content_of self.now) }
     {
         let payload = if self.is_short() { 1 } else { 4 };
@@ -104,8 +110,7 @@ impl Fields<'_> {
 
     // The ID's length, where there is an ID.
     fn put_id_length(&self, space: &mut [u8], at: usize) -> usize
-        requires id_len_bound { length self.now.id.now ≤ 255 }
-        requires self_in_bounds { at + length (id_count (content_of self.now)) ≤ length space.old }
+        requires { at + length (id_count (content_of self.now)) ≤ length space.old }
         ensures after { space.new ≡ laid_at space.old at (id_count (content_of self.now)) }
         ensures value { result ≡ at + length (id_count (content_of self.now)) }
     {
@@ -118,7 +123,6 @@ impl Fields<'_> {
 
     // Lays the record into the space at `at`, and answers where it ends.
     pub(crate) fn lay(&self, space: &mut [u8], at: usize, first: bool, last: bool) -> usize
-        requires brief { Brief (content_of self.now) }
         requires payload_len_bound { length self.now.payload.now < 2 ^ 32 }
         requires self_in_bounds { at + encoded_length (content_of self.now) ≤ length space.old }
         ensures after { space.new ≡ laid_at space.old at (encoded first last (content_of self.now)) }

@@ -1,7 +1,6 @@
 // The lengths that a record's header gives.
-ghost use Rattle.std.specs.Prelude.{◌≡◌, ℕ, ◌<◌, false, length, MatchOption};
+ghost use Rattle.std.specs.Prelude.{◌≡◌, ℕ, ◌<◌, ◌≤◌, false, length, MatchOption};
 ghost use Rattle.header.specs.Header.{fixed};
-ghost use Rattle.ndef.specs.Reader.{Lays};
 ghost use Rattle.ndef.specs.Reading.{flags_of, payload_length, id_length, good};
 
 use header::{CHUNK, FIRST, Format, LAST, NAMED, SHORT, fixed_length, is_set};
@@ -13,6 +12,8 @@ pub(crate) struct Layout {
     pub(crate) kind: usize,
     pub(crate) id: usize,
     pub(crate) payload: usize,
+    ghost kind_is_brief: { kind ≤ 255 },
+    ghost id_is_brief: { id ≤ 255 },
 }
 
 // The payload's length, if the bytes hold the header's fixed part up to it: one byte in a short record, else four.
@@ -31,7 +32,7 @@ fn payload_length(bytes: &[u8]) -> Option<usize>
 
 // The ID's length, if the bytes hold the header's fixed part: its last byte, where it is there.
 fn id_length(bytes: &[u8]) -> Option<usize>
-    ensures { MatchOption result (length bytes.now < fixed (flags_of bytes.now)) (λ n. n ≡ id_length bytes.now) }
+    ensures { MatchOption result (length bytes.now < fixed (flags_of bytes.now)) (λ n. (n ≡ id_length bytes.now) × (n ≤ 255)) }
 {
     let flags = *bytes.first()?;
     if is_set(flags, NAMED) {
@@ -42,6 +43,8 @@ fn id_length(bytes: &[u8]) -> Option<usize>
 }
 
 impl Layout {
+    ghost use Rattle.ndef.specs.Reader.{Lays};
+
     // The layout of the record whose header begins `bytes`, if it is good; `first` says whether it is the message's first.
     pub(crate) fn read(bytes: &[u8], first: bool) -> Option<Layout>
         ensures { MatchOption result (good first bytes.now ≡ false) (λ l. Lays first bytes.now l) }

@@ -1,13 +1,13 @@
 // The record reader: it borrows a message and hands out its records one by one.
-ghost use Rattle.std.specs.Prelude.{◌≡◌, ℕ, ◌+◌, ◌≤◌, false, length, MatchOption};
-ghost use Rattle.ndef.specs.Reader.{Found, Hands, Next, stretch_of};
+ghost use Rattle.std.specs.Prelude.{◌≡◌, ℕ, ◌+◌, ◌≤◌, false, length, IfOk, IfSome, MatchOption};
+ghost use Rattle.ndef.specs.Reader.{Found, Hands, IsBrief, Next, stretch_of};
 ghost use Rattle.ndef.specs.Reading.{good_at, over, stretch};
 
 use crate::layout::Layout;
 use crate::record::{Part, Record};
 use header::RecordRefusal;
 
-#[derive(Drop)]
+#[derive(Clone, Copy)]
 pub struct Reader<'a> {
     message: &'a [u8],
     // the next header's place, or the message's end
@@ -44,7 +44,8 @@ impl<'a> Reader<'a> {
 
     // The record whose header is next, if it is good.
     fn record(&self) -> Option<Record<'a>>
-        ensures { MatchOption result (good_at self.now.message.now self.now.place ≡ false) (Found self.now.message.now self.now.place) }
+        ensures found { MatchOption result (good_at self.now.message.now self.now.place ≡ false) (Found self.now.message.now self.now.place) }
+        ensures brief { IfSome result IsBrief }
     {
         let layout = Layout::read(&self.message[self.place..], self.place == 0)?;
         let kind = self.part(self.place + layout.fixed, layout.kind);
@@ -61,7 +62,8 @@ impl<'a> Reader<'a> {
 
     // What the reader hands out next.
     fn peek(&self) -> Result<Option<Record<'a>>, RecordRefusal>
-        ensures { Next self.now.message.now self.now.place result }
+        ensures next { Next self.now.message.now self.now.place result }
+        ensures brief { IfOk result (λ next. IfSome next IsBrief) }
     {
         if self.is_over() {
             return Ok(None);
@@ -76,6 +78,7 @@ impl<'a> Reader<'a> {
     pub fn next_record(&mut self) -> Result<Option<Record<'a>>, RecordRefusal>
         ensures message { self.new.message.now ≡ self.old.message.now }
         ensures hands { Hands self.old.message.now self.old.place self.new.place result }
+        ensures brief { IfOk result (λ next. IfSome next IsBrief) }
     {
         let next = self.peek()?;
         if let Some(record) = next {
