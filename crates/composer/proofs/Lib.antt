@@ -9,3 +9,4 @@ pub mod Flags
 pub mod ReadBack
 pub mod Rebuilt
 pub mod Recomposes
+pub mod Written

@@ -3,3 +3,4 @@ pub mod Describing
 pub mod Fields
 pub mod Message
 pub mod Records
+pub mod Writer

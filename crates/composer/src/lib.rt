@@ -6,6 +6,7 @@ mod description;
 mod fields;
 mod recomposer;
 mod records;
+mod writer;
 
 pub use composer::compose;
 pub use description::{Description, Extent};

@@ -8,6 +8,7 @@ ghost use Rattle.ndef.specs.Content.{Content};
 ghost use Rattle.space.specs.Space.{laid};
 
 use crate::fields::Fields;
+use crate::writer::Writer;
 use header::RecordRefusal;
 
 // The longest message.
@@ -50,9 +51,9 @@ fn lay_all<'a, R: Records<'a> + Copy>(mut records: R, space: &mut [u8]) -> Resul
     ensures answer { result ≡ Ok tt }
     ensures after { space.new ≡ laid (message (R.left records)) space.old }
 {
-    let mut at = 0;
+    let mut writer = Writer::new(space);
     while let Some(fields) = records.next_fields()? {
-        at = fields.lay(space, at, at == 0, records.is_over());
+        fields.put(&mut writer, records.is_over());
     }
     Ok(())
 }
