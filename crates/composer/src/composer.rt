@@ -26,9 +26,9 @@ impl<'a> Records<'a> for Described<'a> {
         let Some(description) = self.descriptions.get(self.index) else {
             return Ok(None);
         };
-        let Some(fields) = description.fields(self.store) else {
-            return Err(RecordRefusal::BadDescription { index: self.index });
-        };
+        let fields = description
+            .fields(self.store)
+            .ok_or(RecordRefusal::BadDescription { index: self.index })?;
         self.index += 1;
         Ok(Some(fields))
     }

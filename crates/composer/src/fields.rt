@@ -31,7 +31,7 @@ impl<'a> Fields<'a> {
     ghost use Rattle.ndef.specs.Reader.{IsBrief, entry_of};
     ghost use Rattle.ndef.specs.Reading.{content};
 
-    // The fields of a record that was read, without their places.
+    // The fields of a record that was read, without their places. No `From`: a header has to be able to tell of it.
     pub(crate) fn of_record(record: &Record<'a>) -> Fields<'a>
         requires { IsBrief «record».now }
         ensures { content_of result ≡ content (entry_of «record».now) }
@@ -59,7 +59,7 @@ impl Fields<'_> {
     fn is_named(&self) -> bool
         ensures { result ≡ named (content_of self.now) }
     {
-        self.id.len() > 0
+        !self.id.is_empty()
     }
 
     // How many bytes the record takes.

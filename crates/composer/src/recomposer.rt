@@ -14,10 +14,8 @@ impl<'a> Records<'a> for Reader<'a> {
     ghost fault = { λ r. bad_header (fault_of (left_of r.message.now r.place)) };
 
     fn next_fields(&mut self) -> Result<Option<Fields<'a>>, RecordRefusal> {
-        let Some(record) = self.next_record()? else {
-            return Ok(None);
-        };
-        Ok(Some(Fields::of_record(&record)))
+        let next = self.next_record()?;
+        Ok(next.map(|record| Fields::of_record(&record)))
     }
 
     fn is_over(&self) -> bool {

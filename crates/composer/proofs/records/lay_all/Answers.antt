@@ -1,6 +1,4 @@
-use Rattle.std.proofs.Common.{◌≡◌, ◌≤◌, length, sym, ap, ◌∙◌, rules, arith}
-use Rattle.composer.specs.Message.{message}
-use Rattle.space.specs.Space.{laid}
+use Rattle.std.proofs.Common.{length, sym, ap, ◌∙◌, rules, arith}
 use Rattle.composer.proofs.Filled.{goes, filled_more, filled-all}
 use Rattle.composer.proofs.records.lay_all.Goals as goal
 
