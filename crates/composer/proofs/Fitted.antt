@@ -1,12 +1,12 @@
 -- The answer for a message that is to go into a space, by its length. Assumes nothing.
-use Rattle.std.proofs.Common.{◌≡◌, ℕ, ◌<◌, ◌≤◌, List, length, Ok, Err, Result, sym, ◌∙◌, ⊎_elim, arith}
+use Rattle.std.proofs.Common.{◌≡◌, ℕ, ◌<◌, ◌≤◌, List, length, Ok, Err, Result, sym, ◌∙◌, ⊎_elim}
 use Rattle.std.proofs.lemmas.Bool.{cond-true, cond-false, cases_lt, lt-ltb, le-ltb, le-leb, lt-leb}
 use Rattle.header.specs.declared.refusal.RecordRefusal.{RecordRefusal}
 use Rattle.header.specs.declared.refusal.RecordRefusal.TheVariants.{SpaceShort, BadDescription}
 use Rattle.composer.specs.Composing.{longest, fitted}
 
 pub no_answer : {n : ℕ} {e : RecordRefusal} → ◌≡◌ {A = Result ℕ RecordRefusal} (Err e) (Ok n) → ⊥
-no_answer {n} {e} p = let z : ◌≡◌ {A = ℕ} 0 1 = cc in omega arith
+no_answer {n} {e} p = cc
 
 module _ (m : List ℕ) where
   pub fitted-long : (room : ℕ) → longest < length m → fitted m room ≡ Err (BadDescription 0)

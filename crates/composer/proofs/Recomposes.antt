@@ -29,7 +29,7 @@ over-none m p h whole =
     (cases_Bool (over m p))
 
 pub no_fault : (o : Option ℕ) → bad_header o ≡ None → o ≡ None
-no_fault (Some p) e = absurd (let z : ◌≡◌ {A = ℕ} 0 1 = cc in omega arith)
+no_fault (Some p) e = cc
 no_fault None e = refl
 
 -- ---- the end

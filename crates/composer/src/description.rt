@@ -6,7 +6,7 @@ ghost use Rattle.composer.specs.Describing.{Names, Describes};
 use crate::fields::Fields;
 use header::Format;
 
-// Where a part lies in the store: any numbers, since one that names no part is answered too.
+// Where a part lies in the store. Two numbers and no slice: one that does not lie in it has to be told and refused.
 #[derive(Clone, Copy, PartialEq, Eq, Debug)]
 pub struct Extent {
     pub place: usize,

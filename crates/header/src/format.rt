@@ -35,7 +35,7 @@ impl Format {
     // The bits of a header that name this format.
     pub const MASK: u8 = 0x07;
 
-    // The value of the three bits.
+    // The value of the three bits. A method and no `From`, since `u8::from(format)` would not say which number it is.
     pub fn number(self) -> u8
         ensures { result ≡ number self }
     {
