@@ -1,13 +1,11 @@
 -- The loop that adds up what the records take. Assumes nothing.
-use Rattle.std.proofs.Common.{◌≡◌, ℕ, ◌+◌, ◌-◌, ◌<◌, ◌≤◌, min, true, false, cond, ◌⊎◌, List, [], ◌∷◌, length, Some, None, Ok, Err, Option, sym, refl, ap, ◌∙◌, inl, inr, arith}
+use Rattle.std.proofs.Common.{◌≡◌, ℕ, ◌-◌, ◌<◌, ◌≤◌, min, true, false, cond, ◌⊎◌, List, [], ◌∷◌, length, None, Ok, Err, Option, sym, refl, ap, ◌∙◌, inl, inr, arith}
 use Rattle.std.proofs.lemmas.Bool.{cond-true, cond-false}
-use Rattle.composer.specs.declared.fields.Fields.{Fields}
 use Rattle.header.specs.declared.refusal.RecordRefusal.{RecordRefusal}
 use Rattle.header.specs.declared.refusal.RecordRefusal.TheVariants.{BadDescription}
 use Rattle.composer.specs.Composing.{longest, fitted}
-use Rattle.composer.specs.Fields.{content_of}
-use Rattle.composer.specs.Message.{encoded_length, none, message}
-use Rattle.composer.specs.Records.{Given, fit, Sized}
+use Rattle.composer.specs.Message.{none, message}
+use Rattle.composer.specs.Records.{fit, Sized}
 use Rattle.ndef.specs.Content.{Content}
 use Rattle.composer.proofs.Amounts.{amount, message-length}
 use Rattle.composer.proofs.Fitted.{fitted-long, fitted_fits, fitted_short}
@@ -22,9 +20,6 @@ pub record Counted (cs : List Content) (f : Option RecordRefusal) (cs' : List Co
   pub part : amount cs' ≤ amount cs
   pub sum : total ≡ min (amount cs - amount cs') most
 
-pub counted_none : (cs : List Content) (f : Option RecordRefusal) → Counted cs f cs f 0
-counted_none cs f = record { ends = refl; part = omega arith; sum = omega arith }
-
 -- a list whose records take no bytes is empty
 none-counted : (cs : List Content) → amount cs ≡ 0 → none cs ≡ true
 none-counted [] e = refl
@@ -35,16 +30,6 @@ some_counted [] h = absurd (omega arith)
 some_counted (c ∷ cs) h = refl
 
 module _ {cs : List Content} {f : Option RecordRefusal} {cs' : List Content} {f' : Option RecordRefusal} {total : ℕ} (so_far : Counted cs f cs' f' total) where
-  pub counted_more : (cs'' : List Content) (f'' : Option RecordRefusal) (x : Fields) (total' : ℕ) → Given cs' f' cs'' f'' x → total' ≡ min (total + encoded_length (content_of x)) most → Counted cs f cs'' f'' total'
-  counted_more cs'' f'' x total' gave t =
-      let more : amount cs' ≡ encoded_length (content_of x) + amount cs'' = ap amount gave.next in
-      let before = so_far.sum in
-      let part = so_far.part in
-      record { ends = so_far.ends ∙ gave.ends; part = omega arith; sum = omega arith }
-
-  pub counted-bad : (e : RecordRefusal) → f' ≡ Some e → (room : ℕ) → fit f cs room ≡ Err e
-  counted-bad e bad room = ap (λ o. fit o cs room) (so_far.ends ∙ bad)
-
   module _ (over : (cs' ≡ []) × (f' ≡ None)) where
     answer : (room : ℕ) → fit f cs room ≡ cond (none cs) (Err (BadDescription 0)) (fitted (message cs) room)
     answer room = ap (λ o. fit o cs room) (so_far.ends ∙ over.1)

@@ -1,5 +1,5 @@
 -- The loop that lays the records, one behind the other. Assumes nothing.
-use Rattle.std.proofs.Common.{◌≡◌, ℕ, ◌+◌, ◌^◌, ◌<◌, ◌≤◌, Bool, false, eqb, List, [], ◌++◌, length, None, Option, sym, refl, ap, ◌∙◌, subst, arith}
+use Rattle.std.proofs.Common.{◌≡◌, ℕ, ◌+◌, ◌^◌, ◌<◌, ◌≤◌, Bool, false, eqb, List, [], ◌++◌, length, None, Option, sym, ap, ◌∙◌, subst, arith}
 use Rattle.std.proofs.lemmas.Bool.{ne_eqb}
 use Rattle.composer.specs.declared.fields.Fields.{Fields}
 use Rattle.header.specs.declared.refusal.RecordRefusal.{RecordRefusal}
@@ -11,7 +11,7 @@ use Rattle.composer.specs.Records.{Given}
 use Rattle.composer.specs.Writer.{Writes}
 use Rattle.ndef.specs.Content.{Content}
 use Rattle.space.specs.Space.{laid}
-use Rattle.space.proofs.Laying.{Laying, laying_none, laying_more, laying_all, next_fits}
+use Rattle.space.proofs.Laying.{Laying, laying_more, laying_all, next_fits}
 use Rattle.composer.proofs.Encoded.{encoded-length}
 
 -- of the records cs, those before cs' are written, by a writer that stood at its start before
@@ -20,16 +20,6 @@ pub record Filled (cs : List Content) (before now : Writer) (cs' : List Content)
   pub room : length now.space.now ≡ length before.space.now
   pub laying : Laying (message cs) before.space.now now.space.now now.at (message_from (eqb now.at 0) cs')
   pub good : f' ≡ None
-
-pub filled_none : (cs : List Content) (f : Option RecordRefusal) (w : Writer) → w.at ≡ 0 → f ≡ None → Filled cs w w cs f
-filled_none cs f w start good =
-    let s = w.space.now in
-    record {
-      same_space = refl;
-      room = refl;
-      laying = subst (λ n. Laying (message cs) s s n (message_from (eqb n 0) cs)) (sym start) (laying_none _ s);
-      good = good;
-    }
 
 -- the next fields go into a space that has room for the message
 pub record Goes (x : Fields) (w : Writer) : Type 0 where

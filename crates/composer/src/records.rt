@@ -37,6 +37,7 @@ fn total_length<'a, R: Records<'a> + Copy>(mut records: R) -> Result<usize, Reco
     while let Some(fields) = records.next_fields()? {
         total = total.saturating_add(fields.encoded_length());
     }
+    // no record takes no bytes, so there is none where the total is 0
     if total == 0 || total > LONGEST {
         return Err(RecordRefusal::BadDescription { index: 0 });
     }

@@ -1,5 +1,5 @@
 -- From the lengths of a record to the record, and from the record to what the reader hands out. Assumes nothing.
-use Rattle.std.proofs.Common.{◌≡◌, ℕ, ◌+◌, ◌≤◌, false, eqb, List, length, take, drop, sym, ap, ◌∙◌, arith, length-drop, length-take}
+use Rattle.std.proofs.Common.{◌≡◌, ℕ, ◌+◌, ◌≤◌, false, eqb, List, length, take, drop, sym, ap, ◌∙◌, arith, length-take}
 use Rattle.std.proofs.lemmas.List.{take_min}
 use Rattle.ndef.specs.declared.layout.Layout.{Layout}
 use Rattle.ndef.specs.declared.record.Part.{Part}
@@ -16,13 +16,6 @@ pub record Parts (m : List ℕ) (p : ℕ) (l : Layout) (kind id payload : Part) 
   pub payload_at : stretch_of payload ≡ stretch m (id.place + l.id) l.payload
 
 module _ (m : List ℕ) (p : ℕ) (l : Layout) (lays : Lays (eqb p 0) (drop p m) l) where
-  -- every part ends within the message
-  pub ends_within : p ≤ length m → p + l.fixed + l.kind + l.id + l.payload ≤ length m
-  ends_within h =
-      let facts = good_facts (eqb p 0) (drop p m) lays.good in
-      let long = length-drop p m in
-      omega (arith, facts.within, lays.fixed, lays.kind, lays.id, lays.payload)
-
   pub found : (kind id payload : Part) → Parts m p l kind id payload → Found m p (record { place = p; format = l.format; kind = kind; id = id; payload = payload })
   found kind id payload parts =
       let fixed-is = lays.fixed in
