@@ -33,6 +33,7 @@ impl<'a> Records<'a> for Described<'a> {
         Ok(Some(fields))
     }
 
+    #[tactic(auto, using(crate::proofs::Composes::none_left))]
     fn is_over(&self) -> bool {
         self.index == self.descriptions.len()
     }
