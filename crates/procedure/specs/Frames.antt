@@ -1,5 +1,5 @@
 -- The frames that a gate sends: each is for the one tag whose UID it names.
-use Rattle.std.specs.Prelude.{ℕ, ◌+◌, ◌/◌, ◌%◌, cond, List, [], ◌∷◌, ◌++◌, nat_le}
+use Rattle.std.specs.Prelude.{ℕ, ◌+◌, ◌/◌, ◌%◌, if◌then◌else◌, List, [], ◌∷◌, ◌++◌, nat_le}
 
 -- the eight bytes of a UID, least significant first
 abbrev pub uid_bytes : ℕ → List ℕ
@@ -8,11 +8,11 @@ uid_bytes u =
 
 -- a block number up to 255 is one byte, a later one two, the low byte first
 abbrev pub block_bytes : ℕ → List ℕ
-block_bytes n = cond (nat_le n 255) (n ∷ []) (n % 256 ∷ n / 256 ∷ [])
+block_bytes n = if nat_le n 255 then n ∷ [] else n % 256 ∷ n / 256 ∷ []
 
 -- and the code for it is 20h to 22h, or 30h to 32h
 abbrev pub code_for : ℕ → ℕ → ℕ
-code_for code n = cond (nat_le n 255) code (code + 0x10)
+code_for code n = if nat_le n 255 then code else code + 0x10
 
 -- reads a block of the tag
 abbrev pub read_frame : ℕ → ℕ → List ℕ

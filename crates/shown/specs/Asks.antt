@@ -1,5 +1,5 @@
 -- Looking into a memory byte by byte: which byte is asked for next, and what is made of it.
-use Rattle.std.specs.Prelude.{ℕ, ◌+◌, ◌*◌, cond, List, length, Some, None, Ok, Err, Option, Result, nat_lt, slice_index}
+use Rattle.std.specs.Prelude.{ℕ, ◌+◌, ◌*◌, if◌then◌else◌, List, length, Some, None, Ok, Err, Option, Result, nat_lt, slice_index}
 
 pub data Asks (V : Type 0) : Type 0 where
   done : V → Asks V
@@ -14,7 +14,7 @@ and_then (byte a on) next = byte a (λ b. and_then (on b) next)
 -- over the bytes of a memory; none where a byte outside it is asked for
 abbrev pub over : {V : Type 0} → List ℕ → Asks V → Option V
 over bytes (done v) = Some v
-over bytes (byte a on) = cond (nat_lt a (length bytes)) (over bytes (on (slice_index bytes a))) None
+over bytes (byte a on) = if nat_lt a (length bytes) then over bytes (on (slice_index bytes a)) else None
 
 -- one byte
 abbrev pub just_byte : {E : Type 0} → ℕ → Asks (Result ℕ E)

@@ -1,5 +1,5 @@
 -- The capability container: where the TLVs of a tag begin and end, and what it lets a gate do.
-use Rattle.std.specs.Prelude.{ℕ, ◌+◌, ◌*◌, Bool, true, false, cond, ◌&&◌, ◌||◌, Ok, Err, Result, ◌==◌, bit_and, nat_le}
+use Rattle.std.specs.Prelude.{ℕ, ◌+◌, ◌*◌, Bool, true, false, if◌then◌else◌, ◌&&◌, ◌||◌, Ok, Err, Result, ◌==◌, bit_and, nat_le}
 use Rattle.shown.specs.declared.container.Container.{Container}
 use Rattle.shown.specs.declared.flaw.Flaw.{Flaw}
 use Rattle.shown.specs.declared.flaw.Flaw.TheVariants.{NotNdef, NotReadable, TooLong}
@@ -16,22 +16,22 @@ is_readable h = bit_and h.access 0x0C == 0
 
 -- first what it is, then whether it may be read
 abbrev pub checked : Header → Result Header Flaw
-checked h = cond (is_ndef h) (cond (is_readable h) (Ok h) (Err NotReadable)) (Err NotNdef)
+checked h = if is_ndef h then if is_readable h then Ok h else Err NotReadable else Err NotNdef
 
 -- under E1h there are at most 256 blocks, under E2h 65,536
 abbrev pub limit : Header → ℕ → ℕ
-limit h unit = cond (h.magic == 0xE1) (256 * unit) (65536 * unit)
+limit h unit = if h.magic == 0xE1 then 256 * unit else 65536 * unit
 
 -- the TLVs begin behind the container, of four bytes or, in its long form, eight
 abbrev pub begin_of : Bool → ℕ
-begin_of long = cond long 8 4
+begin_of long = if long then 8 else 4
 
 -- MLEN counts eight bytes each
 abbrev pub container_of : Header → Bool → ℕ → Container
 container_of h long mlen = record { header = h; begin = begin_of long; end = begin_of long + 8 * mlen }
 
 abbrev pub bounded : Header → ℕ → Bool → ℕ → Result Container Flaw
-bounded h unit long mlen = cond (nat_le (begin_of long + 8 * mlen) (limit h unit)) (Ok (container_of h long mlen)) (Err TooLong)
+bounded h unit long mlen = if nat_le (begin_of long + 8 * mlen) (limit h unit) then Ok (container_of h long mlen) else Err TooLong
 
 abbrev pub header : Asks (Result Header Flaw)
 header =
@@ -48,7 +48,7 @@ abbrev pub long_form : ℕ → Header → ℕ → Asks (Result Container Flaw)
 long_form unit h mlen = done (bounded h unit true mlen)
 
 abbrev pub sized : ℕ → Header → Asks (Result Container Flaw)
-sized unit h = cond (h.mlen == 0) (and_then long_mlen (long_form unit h)) (done (bounded h unit false h.mlen))
+sized unit h = if h.mlen == 0 then and_then long_mlen (long_form unit h) else done (bounded h unit false h.mlen)
 
 abbrev pub container : ℕ → Asks (Result Container Flaw)
 container unit = and_then header (sized unit)

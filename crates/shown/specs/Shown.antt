@@ -1,5 +1,5 @@
 -- What a tag shows, from its bytes and its block length alone.
-use Rattle.std.specs.Prelude.{ℕ, ◌+◌, cond, List, length, take, drop, Some, None, Ok, Err, Option, Result, nat_le}
+use Rattle.std.specs.Prelude.{ℕ, ◌+◌, if◌then◌else◌, List, length, take, drop, Some, None, Ok, Err, Option, Result, nat_le}
 use Rattle.memory.specs.Model.{Model}
 use Rattle.shown.specs.declared.container.Place.{Place}
 use Rattle.shown.specs.declared.flaw.Flaw.{Flaw}
@@ -18,7 +18,7 @@ valued p = length_field p.container.end p.at
 
 -- the bytes of a value, none where they pass the memory
 abbrev pub value_in : List ℕ → Value → Option (List ℕ)
-value_in bytes v = cond (nat_le (v.at + v.long) (length bytes)) (Some (take v.long (drop v.at bytes))) None
+value_in bytes v = if nat_le (v.at + v.long) (length bytes) then Some (take v.long (drop v.at bytes)) else None
 
 abbrev pub message : List ℕ → Option (Result Value Flaw) → Option (List ℕ)
 message bytes None = None

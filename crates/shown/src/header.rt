@@ -1,4 +1,5 @@
-// The four bytes that every capability container has.
+// The four bytes that every capability container has: plain bytes and no enums, since a tag shows what it shows whatever
+// stands there.
 #[derive(Clone, Copy, PartialEq, Eq, Debug)]
 pub struct Header {
     // E1h, for one-byte block numbers, or E2h

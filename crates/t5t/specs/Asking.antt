@@ -1,5 +1,5 @@
 -- Bytes of a tag had by reading its blocks, the block last read being kept.
-use Rattle.std.specs.Prelude.{◌≡◌, ℕ, ◌/◌, ◌%◌, cond, List, drop, replicate, Some, None, Ok, Err, Option, Result, ◌==◌, slice_index}
+use Rattle.std.specs.Prelude.{◌≡◌, ℕ, ◌/◌, ◌%◌, if◌then◌else◌, List, drop, replicate, Some, None, Ok, Err, Option, Result, ◌==◌, slice_index}
 use Rattle.space.specs.Space.{laid}
 use Rattle.field.specs.Decode.{is_data, is_error}
 use Rattle.procedure.specs.Frames.{read_frame}
@@ -20,7 +20,7 @@ abbrev pub replied : ℕ → Reply → Result (List ℕ) Cause
 replied n silence = Err Lost
 replied n several = Err Several
 replied n (one a) =
-    cond (is_data a n) (Ok (drop 1 a)) (cond (is_error a) (Err (TagError (slice_index a 1))) (Err NotUnderstood))
+    if is_data a n then Ok (drop 1 a) else if is_error a then Err (TagError (slice_index a 1)) else Err NotUnderstood
 
 -- a block as it is kept
 abbrev pub kept_of : ℕ → List ℕ → Kept
@@ -37,7 +37,7 @@ reads step u unit n = send (read_frame u n) (λ r. answer (received step n (repl
 -- the block that is kept, if it has that number
 abbrev pub kept_at : Option Kept → ℕ → Option Kept
 kept_at None n = None
-kept_at (Some k) n = cond (k.number == n) (Some k) None
+kept_at (Some k) n = if k.number == n then Some k else None
 
 -- the block of that number: the one that is kept, or it is read
 abbrev pub or_reads : Step → ℕ → ℕ → ℕ → Option Kept → Procedure (Result Kept Stop)

@@ -1,5 +1,5 @@
 -- Reading: the L-field again, and then the value, block by block.
-use Rattle.std.specs.Prelude.{ℕ, zero, suc, ◌+◌, ◌-◌, ◌/◌, ◌%◌, min, cond, List, [], ◌++◌, take, drop, Some, None, Ok, Err, Option, Result, ◌==◌, nat_lt}
+use Rattle.std.specs.Prelude.{ℕ, zero, suc, ◌+◌, ◌-◌, ◌/◌, ◌%◌, min, if◌then◌else◌, List, [], ◌++◌, take, drop, Some, None, Ok, Err, Option, Result, ◌==◌, nat_lt}
 use Rattle.procedure.specs.Procedure.{Procedure, answer, bind}
 use Rattle.shown.specs.declared.value.Value.{Value}
 use Rattle.shown.specs.Walk.{length_field}
@@ -32,7 +32,7 @@ or_break got next (Err s) = answer (Err (record { stop = s; got = got }))
 abbrev pub copying : ℕ → ℕ → ℕ → Option Kept → ℕ → ℕ → List ℕ → Procedure (Result (List ℕ) Break)
 copying zero u unit k a left got = answer (Ok got)
 copying (suc fuel) u unit k a left got =
-    cond (left == 0) (answer (Ok got)) (bind (block_of Step.Read u unit k (a / unit)) (or_break got (λ b. copying fuel u unit (Some b) (a + chunk unit a left) (left - chunk unit a left) (got ++ chunk_of unit a left b))))
+    if left == 0 then answer (Ok got) else bind (block_of Step.Read u unit k (a / unit)) (or_break got (λ b. copying fuel u unit (Some b) (a + chunk unit a left) (left - chunk unit a left) (got ++ chunk_of unit a left b)))
 
 -- what the L-field makes of it: an empty message is refused, then a space that is too short
 abbrev pub refused_at : Option Kept → Cause → Procedure (Result (List ℕ) Break)
@@ -40,7 +40,7 @@ refused_at k c = answer (Err (record { stop = record { cause = c; step = Step.Wa
 
 abbrev pub copied : ℕ → ℕ → ℕ → Value × Option Kept → Procedure (Result (List ℕ) Break)
 copied u unit room v =
-    cond (v.0.long == 0) (refused_at v.1 Empty) (cond (nat_lt room v.0.long) (refused_at v.1 (MessageSpaceShort v.0.long)) (copying v.0.long u unit v.1 v.0.at v.0.long []))
+    if v.0.long == 0 then refused_at v.1 Empty else if nat_lt room v.0.long then refused_at v.1 (MessageSpaceShort v.0.long) else copying v.0.long u unit v.1 v.0.at v.0.long []
 
 abbrev pub or_broken : (Value × Option Kept → Procedure (Result (List ℕ) Break)) → Result (Value × Option Kept) Stop → Procedure (Result (List ℕ) Break)
 or_broken next (Ok v) = next v

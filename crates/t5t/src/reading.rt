@@ -15,7 +15,7 @@ use refusal::Refusal;
 use shown::Place;
 use tag::LONGEST_ANSWER;
 
-// A message that was read: so many bytes in the front of the message space.
+// A message that was read: so many bytes in the front of the message space, which is the caller's.
 #[derive(Clone, Copy, PartialEq, Eq, Debug)]
 pub struct Received {
     pub length: usize,
