@@ -2,7 +2,7 @@
 ghost use Rattle.std.specs.Prelude.{◌≡◌, ℕ};
 ghost use Rattle.memory.specs.BlockLength.{bytes_of};
 ghost use Rattle.memory.specs.Model.{Model, Sound, count_of};
-ghost use Rattle.memory.specs.Calls.{spaced, present, TellsLock, Reads, Writes, Locks};
+ghost use Rattle.memory.specs.Calls.{spaced, present, unlocked, TellsLock, Reads, Writes, Locks};
 
 use crate::block_length::BlockLength;
 use crate::refusal::MemoryRefusal;
@@ -37,6 +37,16 @@ pub trait Memory {
         } else {
             Err(MemoryRefusal::Absent { block })
         }
+    }
+
+    // The check that the block is there and not locked.
+    fn check_open(&self, block: u32) -> Result<(), MemoryRefusal>
+        ensures { result ≡ present (model self.now) block (unlocked (model self.now) block (Ok tt)) }
+    {
+        if self.is_locked(block)? {
+            return Err(MemoryRefusal::Locked { block });
+        }
+        Ok(())
     }
 
     // Whether the block is locked.
