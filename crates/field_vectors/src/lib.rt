@@ -18,7 +18,7 @@ mod tests {
     // A tag of one block, whose four bytes are its UID.
     fn tag(heap: Global, uid: u8) -> Result<Tag<Bench>, Fail> {
         let memory = Bench::new(
-            BlockLength::new(4)?,
+            BlockLength::try_from(4)?,
             [uid; 4].to_vec(heap)?,
             [0u8].to_vec(heap)?,
         );

@@ -16,7 +16,7 @@ mod tests {
 
     // The tag of three blocks of four bytes.
     fn twelve_bytes(heap: Global, uid: u64, wide: bool) -> Result<Tag<Bench>, Fail> {
-        let unit = BlockLength::new(4)?;
+        let unit = BlockLength::try_from(4)?;
         let memory = Bench::new(unit, BYTES.to_vec(heap)?, [0u8; 3].to_vec(heap)?);
         let marks = Marks {
             wide,
