@@ -8,9 +8,10 @@ use Rattle.tag.specs.Means.{Takes, laid_by}
 use Rattle.tag.specs.Rules.{turn}
 use Rattle.tag.specs.Tag.{TagModel}
 use Rattle.field.specs.declared.heard.Heard.{Heard}
-use Rattle.field.specs.declared.heard.Heard.TheVariants.{Nothing, One}
+use Rattle.field.specs.declared.heard.Heard.TheVariants.{Nothing}
 use Rattle.field.specs.declared.span.Span.{Span}
 use Rattle.field.specs.declared.span.Span.TheVariants.{Endless, Left}
+pub use Rattle.field.specs.Exchange.{heard_by}
 use Rattle.field.specs.Exchange.{hears, says, heard_from, laid_all, heard_of, together, Exchange}
 use Rattle.field.specs.Placed.{Placed, SoundAll}
 use Rattle.field.specs.Span.{fallen, reaches, answers}
@@ -58,11 +59,6 @@ sound_both (l ∷ ls) rs x y = (x.0, sound_both ls rs x.1 y)
 pub answers-reaches : (sp : Span) → answers sp ≡ true → reaches sp ≡ true
 answers-reaches Endless e = refl
 answers-reaches (Left n) e = lt-ltb 0 n (let h = ltb-true 1 n e in omega arith)
-
--- a number of bytes, or silence, as it is heard
-abbrev pub heard_by : Option ℕ → Heard
-heard_by None = Nothing
-heard_by (Some n) = One n
 
 said : (o : Option (List ℕ)) (s : List ℕ) → laid_all (option_to_list o) s ≡ laid_by o s
 said None s = refl

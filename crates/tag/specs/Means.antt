@@ -1,5 +1,5 @@
 -- The code's tag, as what it means; and what each of its calls does.
-use Rattle.std.specs.Prelude.{◌≡◌, ℕ, ◌+◌, ◌<◌, ◌≤◌, Bool, List, ◌∷◌, length, Some, None, Ok, Err, Option, Result}
+use Rattle.std.specs.Prelude.{◌≡◌, ℕ, ◌+◌, ◌<◌, ◌≤◌, Bool, if◌then◌else◌, nat_lt, List, ◌∷◌, length, Some, None, Ok, Err, Option, Result}
 use Rattle.std.specs.Option.{option_map}
 use Rattle.memory.specs.declared.refusal.MemoryRefusal.{MemoryRefusal}
 use Rattle.memory.specs.declared.refusal.MemoryRefusal.TheVariants.{Locked}
@@ -30,6 +30,10 @@ pub record Takes (t t' : TagModel) (turn : Turn) (space space' : List ℕ) (r : 
 -- the longest answer: 00h, and 32 blocks of 32 bytes with their lock bytes
 abbrev pub longest : ℕ
 longest = 1057
+
+-- the refusal of a space that some answer does not fit in
+abbrev pub room_in : List ℕ → Result (Unit {0}) TagRefusal
+room_in space = if nat_lt (length space) longest then Err AnswerSpaceShort else Ok tt
 
 -- a step: refused before anything is heard where the space is short, and else what the rules make of the frame
 abbrev pub Steps : TagModel → TagModel → List ℕ → List ℕ → List ℕ → Result (Option ℕ) TagRefusal → Type 0

@@ -2,7 +2,7 @@
 ghost use Rattle.std.specs.Prelude.{◌≡◌, ◌≤◌, length};
 ghost use Rattle.space.specs.Space.{laid};
 ghost use Rattle.tag.specs.Jobs.{does_job, Fills};
-ghost use Rattle.tag.specs.Means.{tag_of, error_for, Steps, Takes, Works};
+ghost use Rattle.tag.specs.Means.{tag_of, error_for, room_in, Steps, Takes, Works};
 ghost use Rattle.tag.specs.Orders.{does_blocks};
 ghost use Rattle.tag.specs.Rules.{turn, blocks, knows};
 
@@ -19,6 +19,16 @@ pub const LONGEST_ANSWER: usize = 1057;
 
 // A space that each answer fits in.
 pub(crate) type Answer = [u8; LONGEST_ANSWER];
+
+// The check that each answer fits in a space.
+pub fn check_space(space: &[u8]) -> Result<(), TagRefusal>
+    ensures { result ≡ room_in space.now }
+{
+    if space.len() < LONGEST_ANSWER {
+        return Err(TagRefusal::AnswerSpaceShort);
+    }
+    Ok(())
+}
 
 // Lays an answer over the front of the space, and answers its length.
 fn lay(space: &mut Answer, answer: &[u8]) -> usize

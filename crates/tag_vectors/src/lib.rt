@@ -149,4 +149,15 @@ mod tests {
         assert!(rt; space == [0xEEu8; 1056]);
         Ok(())
     }
+    #[test]
+    fn uids_and_states_print(rt: HostRuntime) -> Result<(), Fail> {
+        let heap = rt.alloc();
+        let uid = format!(in heap; "{}", Uid(0xE0_0401_00AB_CDEF))?;
+        assert!(rt; uid.as_str() == "00E0040100ABCDEF");
+        let states = [State::Ready, State::Selected, State::Quiet];
+        let [ready, selected, quiet] = states;
+        let text = format!(in heap; "{ready} {selected} {quiet}")?;
+        assert!(rt; text.as_str() == "READY SELECTED QUIET");
+        Ok(())
+    }
 }
