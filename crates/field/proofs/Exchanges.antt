@@ -26,16 +26,19 @@ pub heard-append : (f : List ℕ) (xs ys : List Placed) → heard_from f (xs ++ 
 unfolding heard_from
 heard-append f xs ys = joined_append (says f) xs ys
 
-laid-append : (xs ys : List (List ℕ)) (s : List ℕ) → laid_all (xs ++ ys) s ≡ laid_all ys (laid_all xs s)
+pub laid-append : (xs ys : List (List ℕ)) (s : List ℕ) → laid_all (xs ++ ys) s ≡ laid_all ys (laid_all xs s)
 laid-append [] ys s = refl
 laid-append (x ∷ xs) ys s = laid-append xs ys _
 
-counted-append : (xs ys : List (List ℕ)) → heard_of (xs ++ ys) ≡ together (heard_of xs) (heard_of ys)
+pub counted-append : (xs ys : List (List ℕ)) → heard_of (xs ++ ys) ≡ together (heard_of xs) (heard_of ys)
 counted-append [] ys = refl
 counted-append (a ∷ []) [] = refl
 counted-append (a ∷ []) (b ∷ []) = refl
 counted-append (a ∷ []) (b ∷ c ∷ ys) = refl
 counted-append (a ∷ b ∷ xs) ys = refl
+
+-- each part of an exchange of two fields, for `grind`
+pub ruleset appended = (map-append, heard-append, laid-append, counted-append)
 
 pub exchange_both : {ls ls' rs rs' : List Placed} {f s s' s'' : List ℕ} {a b : Heard} → Exchange ls ls' f s s' a → Exchange rs rs' f s' s'' b → Exchange (ls ++ rs) (ls' ++ rs') f s s'' (together a b)
 exchange_both {ls} {ls'} {rs} {rs'} {f} {s} {s'} {s''} {a} {b} x y =
