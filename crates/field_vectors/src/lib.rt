@@ -261,4 +261,12 @@ mod tests {
         is_refused(&rt, b"\x02\x10", 1, AnswerRefusal::NotUnderstood, 22)?;
         is_refused(&rt, b"", 0, AnswerRefusal::NotUnderstood, 22)
     }
+
+    #[test]
+    fn spans_print(rt: HostRuntime) -> Result<(), Fail> {
+        let [stays, leaves] = [Span::Endless, Span::Left(7)];
+        let text = format!(in rt.alloc(); "{stays} {leaves}")?;
+        assert!(rt; text.as_str() == "endless 7");
+        Ok(())
+    }
 }

@@ -149,6 +149,7 @@ mod tests {
         assert!(rt; space == [0xEEu8; 1056]);
         Ok(())
     }
+
     #[test]
     fn uids_and_states_print(rt: HostRuntime) -> Result<(), Fail> {
         let heap = rt.alloc();
