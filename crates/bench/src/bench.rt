@@ -1,4 +1,4 @@
-// The bench memory: a buffer of bytes, and a buffer of lock bytes.
+// The bench memory: a buffer of bytes, and a buffer of lock bytes, as they are given and given back.
 ghost use Rattle.std.specs.Prelude.{◌≡◌, ◌*◌, ◌<◌, length, slice_set};
 ghost use Rattle.memory.specs.BlockLength.{bytes_of};
 ghost use Rattle.memory.specs.Model.{count_of, put_at, with_block};
@@ -70,6 +70,8 @@ impl Memory for Bench {
         Ok(self.locks[block as usize] != 0)
     }
 
+    // The same lines stand in the printed image: a function for both would have to ask whether a buffer is that of a memory,
+    // and public calls ask for nothing.
     #[tactic(auto, using(crate::proofs::Benches::bench_block, std::proofs::lemmas::Grind::common_steps))]
     fn read(&self, block: u32, space: &mut [u8]) -> Result<(), MemoryRefusal> {
         self.check_space(block, space)?;

@@ -8,7 +8,7 @@ use crate::fields::Fields;
 use crate::records::{Records, compose_all};
 use header::RecordRefusal;
 
-// The descriptions from `index` on, of one store.
+// The descriptions from `index` on, of one store. A slice that shrinks would do but for the refusal, which names the index.
 #[derive(Clone, Copy)]
 struct Described<'a> {
     descriptions: &'a [Description],

@@ -62,7 +62,7 @@ impl Fields<'_> {
         !self.id.is_empty()
     }
 
-    // How many bytes the record takes.
+    // How many bytes the record takes; its header's fixed part is told by the fields, since there are no flags yet.
     pub(crate) fn encoded_length(&self) -> usize
         ensures { result ≡ encoded_length (content_of self.now) }
     {

@@ -14,7 +14,8 @@ use header::RecordRefusal;
 // The longest message.
 pub const LONGEST: usize = 65_534;
 
-// A place in some records: those that are left, and the refusal in which they break off, if they do.
+// A place in some records: those that are left, and the refusal in which they break off, if they do. No `Iterator`: a record
+// is laid by whether it is the last.
 pub(crate) trait Records<'a> {
     ghost left: { Self → List Content };
 

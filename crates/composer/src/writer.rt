@@ -1,4 +1,4 @@
-// A space that the caller lends, filled from its start on.
+// A space that the caller lends, filled from its start on. Each call asks for room for its own bytes.
 ghost use Rattle.std.specs.Prelude.{◌≡◌, ℕ, ◌+◌, ◌≤◌, ◌==◌, length};
 ghost use Rattle.composer.specs.Writer.{Writes};
 

@@ -12,7 +12,7 @@ pub enum AnswerRefusal {
 }
 
 impl AnswerRefusal {
-    // The number under which a refusal is listed.
+    // The number under which a refusal is listed. A method and no `From`, which would not say which number it is.
     pub fn number(self) -> u8
         ensures { result ≡ number_of self }
     {

@@ -19,6 +19,7 @@ pub trait Field {
         ensures { tags self.new ≡ map (hears frame.now) (tags self.old) }
     {
         let mut lost = [0u8; LONGEST_ANSWER];
+        // a space of this length is not refused
         let _ = self.exchange(frame, &mut lost);
     }
 

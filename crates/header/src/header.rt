@@ -1,4 +1,5 @@
-// The first byte of a record's header, bit by bit: a plain byte, as it is read and written, and no plainer as a type of its own.
+// The first byte of a record's header, bit by bit. It stays a plain byte: that is what stands in a message, and a type of
+// its own would ask whoever has one to wrap it.
 ghost use Rattle.std.specs.Prelude.{◌≡◌, ℕ};
 ghost use Rattle.header.specs.Header.{has, fixed};
 

@@ -13,7 +13,7 @@ pub enum RecordRefusal {
 }
 
 impl RecordRefusal {
-    // The number under which a refusal is listed.
+    // The number under which a refusal is listed. A method and no `From`, which would not say which number it is.
     pub fn number(self) -> u8
         ensures { result ≡ number_of self }
     {
@@ -24,7 +24,8 @@ impl RecordRefusal {
         }
     }
 
-    // The place of the bad header, or the index of the bad description; else 0.
+    // The place of the bad header, or the index of the bad description; else 0 and no `None`: each refusal is told with a
+    // number there, which is a rule of the project.
     pub fn place(self) -> usize
         ensures { result ≡ place_of self }
     {

@@ -15,7 +15,7 @@ pub enum MemoryRefusal {
 }
 
 impl MemoryRefusal {
-    // The number under which a refusal is listed.
+    // The number under which a refusal is listed. A method and no `From`, which would not say which number it is.
     pub fn number(self) -> u8
         ensures { result ≡ number_of self }
     {
@@ -27,7 +27,7 @@ impl MemoryRefusal {
         }
     }
 
-    // The block that was asked for; 0 where none was.
+    // The block that was asked for; 0 and no `None` where none was: each refusal is told with a block, a rule of the project.
     pub fn block(self) -> u32
         ensures { result ≡ block_of self }
     {

@@ -8,7 +8,8 @@ pub struct Part<'a> {
     pub bytes: &'a [u8],
 }
 
-// One record: the place of its header, and its fields.
+// One record: the place of its header, and its fields. That type and ID have 255 bytes at most is no ghost field: whoever
+// builds a record would have to show it, which was not asked before.
 #[derive(Clone, Copy, PartialEq, Eq, Debug)]
 pub struct Record<'a> {
     pub place: usize,

@@ -9,6 +9,7 @@ use tag::{TagRefusal, check_space};
 #[derive(Drop)]
 pub struct Fading<F: Field> {
     pub below: F,
+    // a number and no `Span`: what never ends doesn't fade, which is a rule of the project
     pub left: u64,
 }
 

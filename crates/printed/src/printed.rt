@@ -7,7 +7,8 @@ ghost use Rattle.printed.specs.Sound.{printed_sound};
 
 use memory::{BlockLength, Memory, MemoryRefusal};
 
-// Bytes that are lent, and only read.
+// Bytes that are lent, and only read. A trait of its own and not std's `AsSlice`: an impl that lends nothing has to be
+// refused here, as the edits of this crate say.
 pub trait Lent {
     ghost lent: { Self → List ℕ };
 
@@ -61,6 +62,7 @@ impl<B: Lent> Memory for Image<B> {
         self.check_block(block).map(|()| true)
     }
 
+    // The same lines stand in the bench memory, which says why.
     #[tactic(auto, using(crate::proofs::Prints::printed_block, std::proofs::lemmas::Grind::common_steps))]
     fn read(&self, block: u32, space: &mut [u8]) -> Result<(), MemoryRefusal> {
         self.check_space(block, space)?;

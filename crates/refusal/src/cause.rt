@@ -1,4 +1,5 @@
-// Why a call is refused.
+// Why a call is refused: one list, as refusals are told. Flaws and the refusals of answers are not inside but in it, so that
+// whoever matches need not know where a cause comes from.
 ghost use Rattle.std.specs.Prelude.{◌≡◌};
 ghost use Rattle.refusal.specs.Cause.{number_of, cause_of, cause_of_answer};
 
@@ -34,7 +35,7 @@ pub enum Cause {
 }
 
 impl Cause {
-    // The number under which it is listed.
+    // The number under which it is listed. A method and no `From`, which would not say which number it is.
     pub fn number(self) -> u8
         ensures { result ≡ number_of self }
     {

@@ -6,7 +6,7 @@ use crate::step::Step;
 pub struct Refusal {
     pub cause: Cause,
     pub step: Step,
-    // the last block that was sent; 0 before any
+    // the last block that was sent; 0 and no `None` before any: each refusal is told with a block, a rule of the project
     pub block: u32,
     // how many frames were sent
     pub exchanges: u64,

@@ -15,6 +15,7 @@ pub enum Step {
 }
 
 impl Step {
+    // A method and no `From`, which would not say which number it is.
     pub fn number(self) -> u8
         ensures { result ≡ step_number self }
     {

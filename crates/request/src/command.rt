@@ -1,9 +1,6 @@
 // The commands that speak of blocks.
 ghost use Rattle.request.specs.Command.{Decodes};
 
-use std::error::Error;
-use std::fmt;
-
 // What is to be done.
 #[derive(Clone, Copy, PartialEq, Eq, Debug)]
 pub enum Work {
@@ -45,11 +42,3 @@ impl TryFrom<u8> for Command {
         Ok(Command { work, wide })
     }
 }
-
-impl fmt::Display for UnknownCode {
-    fn fmt<W: fmt::Write>(&self, f: &mut fmt::Formatter<W>) -> fmt::Result {
-        write!(f, "no command on blocks has code {:02X}", self.0)
-    }
-}
-
-impl Error for UnknownCode {}

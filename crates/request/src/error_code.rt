@@ -21,6 +21,7 @@ pub enum ErrorCode {
 }
 
 impl ErrorCode {
+    // A method and no `From`, which would not say which number it is.
     pub fn code(self) -> u8
         ensures { result ≡ code_of self }
     {

@@ -24,14 +24,14 @@ pub enum Reach {
     One(Uid),
 }
 
-#[derive(Clone, Copy)]
+#[derive(Clone, Copy, PartialEq, Eq, Debug)]
 pub struct Frame<'a> {
     pub reach: Reach,
     pub optioned: bool,
     pub code: u8,
     // behind flag, code and UID
     pub body: &'a [u8],
-    // of the whole frame, flag, code and UID too
+    // of the whole frame, which the rules speak of, and not of `body`
     pub length: usize,
 }
 

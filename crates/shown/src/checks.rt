@@ -48,8 +48,8 @@ impl Header {
         }
     }
 
-    // The container of so many times eight bytes from `begin` on, which is 4 or 8. The flag is not there for a missing MLEN:
-    // the short form and the long one both have one, and it may have either value.
+    // The container of so many times eight bytes from `begin` on, which is 4 or 8. A flag beside MLEN and no type of two forms:
+    // its short form would have one byte of MLEN, which asks more of callers than this.
     pub fn bounded(self, unit: BlockLength, long: bool, mlen: u16) -> Result<Container, Flaw>
         ensures { result ≡ bounded self (bytes_of unit) long mlen }
     {

@@ -1,4 +1,5 @@
-// Where the TLVs of a tag are, and its message among them.
+// Where the TLVs of a tag are, and its message among them. Plain values without facts of their own: the definition of what a
+// tag shows makes them of any bytes, and who makes them well says so.
 use crate::header::Header;
 
 #[derive(Clone, Copy, PartialEq, Eq, Debug)]

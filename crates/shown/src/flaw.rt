@@ -18,7 +18,7 @@ pub enum Flaw {
 }
 
 impl Flaw {
-    // The number under which it is listed.
+    // The number under which it is listed. A method and no `From`, which would not say which number it is.
     pub fn number(self) -> u8
         ensures { result ≡ number_of self }
     {

@@ -5,8 +5,10 @@ ghost use Rattle.tag.specs.Means.{longest};
 use crate::link::Link;
 use field::Field;
 
-// The field, the answer space, which has room for every answer, and how far the call has come. Its parts say each how many
-// frames may have gone before it: a frame adds one, so no bound on the count stays true by itself; over TLVs, one does.
+// The field, the answer space, which has room for every answer, and how far the call has come. Each part of a call says how
+// many frames may have gone before it: the next one adds to them, so no bound on the count is a fact of the type; over TLVs
+// one is. A function that makes a call of a field and a space was tried, and its proof didn't close: where it refuses, what
+// it leaves of the two couldn't be said. So detection and reading each write it out.
 #[derive(Drop)]
 pub(crate) struct Call<'a, F: Field> {
     pub(crate) field: &'a mut F,

@@ -71,15 +71,16 @@ impl<F: Field> Call<'_, F> {
         ensures air { SameAir self.old self.new }
         ensures within { IfOk result (λ c. (c.begin ≤ c.end) × (4 ≤ c.begin) × (c.end ≤ limit c.header (bytes_of self.old.link.unit))) }
     {
-        let [magic, access, mlen, features, rest @ ..] = &block.bytes[..self.link.unit.bytes()]
+        // each block length is four at least
+        let &[magic, access, mlen, features, ref rest @ ..] = &block.bytes[..self.link.unit.bytes()]
         else {
             unreachable!();
         };
         let header = Header {
-            magic: *magic,
-            access: *access,
-            mlen: *mlen,
-            features: *features,
+            magic,
+            access,
+            mlen,
+            features,
         };
         let header = header
             .checked()

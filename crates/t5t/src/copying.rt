@@ -51,7 +51,8 @@ impl<F: Field> Tlvs<'_, '_, F> {
         let first = value.at as usize;
         let length = value.long as usize;
         let mut done = 0usize;
-        // A step goes to the end of a block, so the first may be shorter than the others: no chunks of one length.
+        // A step goes to the end of a block, so the first and the last may be shorter than the others: no chunks of one
+        // length, and over block numbers each step would have to work out both of its ends.
         while done < length {
             let at = first + done;
             let count = (unit - at % unit).min(length - done);

@@ -13,7 +13,7 @@ use memory::BlockLength;
 use refusal::Refusal;
 use shown::Place;
 use std::marker::PhantomData;
-use tag::{LONGEST_ANSWER, Uid};
+use tag::{Uid, check_space};
 
 // What a detection gives: a session, and how many frames were sent.
 #[derive(Drop)]
@@ -41,7 +41,7 @@ impl Sighted {
         ensures { Detects self.uid.0 (air_of F.tags field.old space.old) (air_of F.tags field.new space.new) result }
     {
         let uid = self.uid;
-        if space.len() < LONGEST_ANSWER {
+        if check_space(space).is_err() {
             return Err(NotFound {
                 session: self,
                 refusal: Stop::ANSWER_SPACE_SHORT.refusal(0),
@@ -71,7 +71,7 @@ impl Sighted {
         }
     }
 
-    // What it then promises in the words of tags and messages.
+    // What it then promises in the words of tags and messages. A function of its own for the reason that reading has.
     fn find_lawfully<F: Field>(self, field: &mut F, space: &mut [u8]) -> Result<Found, NotFound>
         ensures detects { Detects self.uid.0 (air_of F.tags field.old space.old) (air_of F.tags field.new space.new) result }
         ensures laws { DetectionLaws self.uid.0 (air_of F.tags field.old space.old) (air_of F.tags field.new space.new) result }

@@ -1,7 +1,7 @@
 // The block last read.
 ghost use Rattle.std.specs.Prelude.{◌≡◌, ◌≤◌, length};
 
-// Its bytes stand in front, and 00h behind them: a byte is taken at a place below the block length, so none is kept beside.
+// Its bytes stand in front, and 00h behind them: a byte is taken at a place below the block length, so no length is kept beside.
 #[derive(Clone, Copy)]
 pub(crate) struct Kept {
     pub(crate) number: u16,

@@ -13,7 +13,7 @@ use crate::stop::Stop;
 use field::Field;
 use refusal::Refusal;
 use shown::Place;
-use tag::LONGEST_ANSWER;
+use tag::check_space;
 
 // A message that was read: so many bytes in the front of the message space, which is the caller's.
 #[derive(Clone, Copy, PartialEq, Eq, Debug)]
@@ -60,7 +60,7 @@ impl<S> Session<S> {
     ) -> Result<Received, NotRead>
         ensures { Reads self.now.uid.0 (bytes_of self.now.unit) self.now.place.container.end self.now.place.at (air_of F.tags field.old space.old) (air_of F.tags field.new space.new) message.old message.new result }
     {
-        if space.len() < LONGEST_ANSWER {
+        if check_space(space).is_err() {
             let refusal = Stop::ANSWER_SPACE_SHORT.refusal(0);
             return Err(NotRead { refusal, got: 0 });
         }
@@ -74,7 +74,8 @@ impl<S> Session<S> {
         call.read(self.place, message)
     }
 
-    // What it then promises in the words of tags and messages.
+    // What it then promises in the words of tags and messages. A function of its own, since its proof has an answer: a wrong
+    // edit of the public one has to be refused there and not at that answer, which is a rule of the project.
     fn read_lawfully<F: Field>(
         &self,
         field: &mut F,

@@ -31,7 +31,7 @@ pub struct Session<S> {
     // where the message TLV stands
     pub(crate) place: Place,
     pub(crate) state: PhantomData<S>,
-    // what proofs read behind a `&` of the range of a `u64`
+    // a `u64` is that; it is said for proofs that have the session behind a `&`
     ghost low: { uid.0 < 2 ^ 64 },
     ghost begins: { place.container.begin ≤ place.at },
     ghost holds: { place.at + 2 ≤ place.container.end },

@@ -6,11 +6,12 @@ ghost use Rattle.t5t.specs.Stopped.{refusal_of};
 use crate::link::Link;
 use refusal::{Cause, Refusal, Step};
 
+// A refusal but for the number of frames, which the call has.
 #[derive(Clone, Copy)]
 pub(crate) struct Stop {
     pub(crate) cause: Cause,
     pub(crate) step: Step,
-    // the last block that was sent; 0 before any
+    // the last block that was sent; 0 and no `None` before any: each refusal is told with a block, a rule of the project
     pub(crate) block: u32,
 }
 

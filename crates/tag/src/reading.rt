@@ -5,7 +5,7 @@ ghost use Rattle.space.specs.Space.{laid};
 ghost use Rattle.tag.specs.Means.{ReadsInto};
 ghost use Rattle.tag.specs.Rules.{lock_byte, block_from};
 
-use crate::step::Answer;
+use crate::step::AnswerSpace;
 use memory::Memory;
 use request::ErrorCode;
 
@@ -41,7 +41,7 @@ pub(crate) fn read_blocks<M: Memory>(
     first: u16,
     count: u32,
     optioned: bool,
-    space: &mut Answer,
+    space: &mut AnswerSpace,
 ) -> Result<usize, ErrorCode>
     requires { count ≤ 32 }
     ensures { ReadsInto (M.model memory.now) optioned first count space.old space.new result }

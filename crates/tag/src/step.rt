@@ -18,7 +18,7 @@ use request::{Command, ErrorCode, Marks, State, Work};
 pub const LONGEST_ANSWER: usize = 1057;
 
 // A space that each answer fits in.
-pub(crate) type Answer = [u8; LONGEST_ANSWER];
+pub(crate) type AnswerSpace = [u8; LONGEST_ANSWER];
 
 // The check that each answer fits in a space.
 pub fn check_space(space: &[u8]) -> Result<(), TagRefusal>
@@ -31,7 +31,7 @@ pub fn check_space(space: &[u8]) -> Result<(), TagRefusal>
 }
 
 // Lays an answer over the front of the space, and answers its length.
-fn lay(space: &mut Answer, answer: &[u8]) -> usize
+fn lay(space: &mut AnswerSpace, answer: &[u8]) -> usize
     requires { length answer.now ≤ LONGEST_ANSWER }
     ensures left { space.new ≡ laid answer.now space.old }
     ensures long { result ≡ length answer.now }
@@ -68,7 +68,7 @@ impl<M: Memory> Tag<M> {
         &mut self,
         job: Job<'_>,
         optioned: bool,
-        space: &mut Answer,
+        space: &mut AnswerSpace,
     ) -> Result<usize, ErrorCode>
         requires { Fills (M.model self.old.memory).unit job }
         ensures { Works (tag_of M.model self.old) (tag_of M.model self.new) (does_job (tag_of M.model self.old) optioned job.entry) space.old space.new result }
@@ -101,7 +101,7 @@ impl<M: Memory> Tag<M> {
     }
 
     // Carries a command on blocks out, or says why not.
-    fn work(&mut self, order: BlockOrder<'_>, space: &mut Answer) -> Result<usize, ErrorCode>
+    fn work(&mut self, order: BlockOrder<'_>, space: &mut AnswerSpace) -> Result<usize, ErrorCode>
         ensures { Works (tag_of M.model self.old) (tag_of M.model self.new) (blocks (tag_of M.model self.old) order.entry.optioned order.entry.body.now order.entry.command) space.old space.new result }
     {
         let command = match order.command {
@@ -116,17 +116,18 @@ impl<M: Memory> Tag<M> {
     }
 
     // The answer to a command on blocks, laid into the space.
-    fn obey(&mut self, order: BlockOrder<'_>, space: &mut Answer) -> Option<usize>
+    fn obey(&mut self, order: BlockOrder<'_>, space: &mut AnswerSpace) -> Option<usize>
         ensures { Takes (tag_of M.model self.old) (tag_of M.model self.new) (does_blocks (tag_of M.model self.old) order.entry) space.old space.new result }
     {
-        match self.work(order, space) {
-            Ok(length) => Some(length),
-            Err(error) => Some(lay(space, &[1, error.code()])),
-        }
+        let length = match self.work(order, space) {
+            Ok(length) => length,
+            Err(error) => lay(space, &[1, error.code()]),
+        };
+        Some(length)
     }
 
     // The tag's turn: what it makes of a frame, in its state.
-    fn take_turn(&mut self, frame: &[u8], space: &mut Answer) -> Option<usize>
+    fn take_turn(&mut self, frame: &[u8], space: &mut AnswerSpace) -> Option<usize>
         ensures { Takes (tag_of M.model self.old) (tag_of M.model self.new) (turn (tag_of M.model self.old) frame.now) space.old space.new result }
     {
         match (self.state, Order::read(frame, self.uid)) {
@@ -155,6 +156,7 @@ impl<M: Memory> Tag<M> {
     pub fn step(&mut self, frame: &[u8], space: &mut [u8]) -> Result<Option<usize>, TagRefusal>
         ensures { Steps (tag_of M.model self.old) (tag_of M.model self.new) frame.now space.old space.new result }
     {
+        // with `ok_or` and `?` the proof didn't close: what the lent front leaves in the space is lost
         match space.first_chunk_mut() {
             Some(space) => Ok(self.take_turn(frame, space)),
             None => Err(TagRefusal::AnswerSpaceShort),

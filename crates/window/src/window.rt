@@ -48,7 +48,8 @@ impl<M: Memory> Window<M> {
         self.first + block
     }
 
-    // Right in the impl this closes only by an answer: its lemma leaves grind more cases than it splits.
+    // Right in the impl the proof didn't close without an answer, and then a wrong edit is refused at that answer and not
+    // here: tried with the lemma both ways round, and with the whole of `Writes`.
     fn write_shown(&mut self, block: u32, bytes: &[u8]) -> Result<(), MemoryRefusal>
         ensures writes { Writes (window_of (M.model self.old.below) self.old.first self.old.count) (window_of (M.model self.new.below) self.new.first self.new.count) block bytes.now result }
         ensures under { M.model self.new.below ≡ after result (with_block (M.model self.old.below) (self.old.first + block) bytes.now) (M.model self.old.below) }
