@@ -51,14 +51,9 @@ mod tests {
         for (byte, value) in left.iter_mut().zip(front) {
             *byte = *value;
         }
-        match field.exchange(frame, &mut space) {
-            Ok(now) => {
-                assert_eq!(rt; now, heard);
-                assert!(rt; space == left);
-                Ok(())
-            }
-            Err(_) => Err(Fail::new("refused")),
-        }
+        assert_eq!(rt; field.exchange(frame, &mut space)?, heard);
+        assert!(rt; space == left);
+        Ok(())
     }
 
     // The tag's block has these four bytes.
@@ -201,10 +196,9 @@ mod tests {
             left: 1,
         };
         let mut space = [0x55u8; 1056];
-        match field.exchange(&write_to(1), &mut space) {
-            Err(refusal) => assert_eq!(rt; refusal.number(), 1),
-            Ok(_) => return Err(Fail::new("not refused")),
-        }
+        let refused = field.exchange(&write_to(1), &mut space).err();
+        let refusal = refused.ok_or("not refused")?;
+        assert_eq!(rt; refusal.number(), 1);
         assert!(rt; space == [0x55u8; 1056]);
         has(&rt, &field.below, 0x01)?;
         assert_eq!(rt; field.left, 1);
@@ -220,26 +214,14 @@ mod tests {
         number: u8,
     ) -> Result<(), Fail> {
         assert_eq!(rt; refusal.number(), number);
-        match decode(answer, expected) {
-            Err(other) => {
-                assert_eq!(rt; other, refusal);
-                Ok(())
-            },
-            Ok(_) => Err(Fail::new("not refused")),
-        }
+        assert_eq!(rt; decode(answer, expected).err(), Some(refusal));
+        Ok(())
     }
 
     #[test]
     fn answers(rt: HostRuntime) -> Result<(), Fail> {
-        let _ = rt;
-        match decode(b"\x00\xAA\xBB", 2) {
-            Ok(data) => assert!(rt; data == b"\xAA\xBB".as_slice()),
-            Err(_) => return Err(Fail::new("refused")),
-        }
-        match decode(b"\x00", 0) {
-            Ok(data) => assert!(rt; data.is_empty()),
-            Err(_) => return Err(Fail::new("refused")),
-        }
+        assert!(rt; decode(b"\x00\xAA\xBB", 2)? == b"\xAA\xBB".as_slice());
+        assert!(rt; decode(b"\x00", 0)?.is_empty());
         is_refused(
             &rt,
             b"\x01\x10",

@@ -35,15 +35,11 @@ mod tests {
         answer: &[u8],
     ) -> Result<(), Fail> {
         let mut space = [0xEEu8; LONGEST_ANSWER];
-        match tag.step(frame, &mut space) {
-            Ok(Some(n)) => {
-                assert_eq!(rt; n, answer.len());
-                assert!(rt; space.starts_with(answer));
-                assert!(rt; space.get(n).copied() == Some(0xEE));
-                Ok(())
-            }
-            _ => Err(Fail::new("no answer")),
-        }
+        let n = tag.step(frame, &mut space)?.ok_or("no answer")?;
+        assert_eq!(rt; n, answer.len());
+        assert!(rt; space.starts_with(answer));
+        assert!(rt; space.get(n).copied() == Some(0xEE));
+        Ok(())
     }
 
     // The tag stays silent, and the space stays as it was.
