@@ -1,11 +1,9 @@
--- A good description: the code's fields say what it describes, and a header can tell of it. Assumes nothing.
-use Rattle.std.proofs.Common.{◌≡◌, ℕ, ◌+◌, ◌^◌, ◌<◌, ◌≤◌, true, ◌&&◌, leb, List, length, drop, ap, ◌∙◌, arith, length-drop, length-take}
-use Rattle.std.proofs.lemmas.Bool.{and_parts, and_from, leb-true}
+-- A good description: a header can tell of what it says. Assumes nothing.
+use Rattle.std.proofs.Common.{◌≡◌, ℕ, ◌+◌, ◌^◌, ◌<◌, ◌≤◌, true, ◌&&◌, leb, List, length, drop, ◌∙◌, arith, length-drop, length-take}
+use Rattle.std.proofs.lemmas.Bool.{and_parts, leb-true}
 use Rattle.composer.specs.declared.description.Description.{Description}
 use Rattle.composer.specs.declared.description.Extent.{Extent}
-use Rattle.composer.specs.declared.fields.Fields.{Fields}
 use Rattle.composer.specs.Composing.{field_of, described, inside, tellable, sound}
-use Rattle.composer.specs.Describing.{Names, Describes}
 use Rattle.header.specs.Format.{allows}
 use Rattle.composer.proofs.ReadBack.{Tellable}
 
@@ -44,20 +42,6 @@ sound_facts store d s =
     let b = and_parts (tellable d && k) i a.0 in
     let e = and_parts (tellable d) k b.0 in
     record { told_of = told d e.0; kind = e.1; id = b.1; payload = a.1 }
-
-pub describes : (store : List ℕ) (d : Description) (f : Fields) → tellable d ≡ true → f.format ≡ d.format → Names store d.kind f.kind.now → Names store d.id f.id.now → Names store d.payload f.payload.now → Describes store d f
-describes store d f t ef k i p =
-    let facts = told d t in
-    let ek = k.bytes in
-    let ei = i.bytes in
-    let ep = p.bytes in
-    let lk = ap length ek ∙ field_long store d.kind k.inside in
-    let li = ap length ei ∙ field_long store d.id i.inside in
-    record {
-      sound = and_from _ _ (and_from _ _ (and_from _ _ t k.inside) i.inside) p.inside;
-      content = λ j. record { format = ef j; kind = ek j; id = ei j; payload = ep j };
-      brief = record { kind = omega (arith, facts.kind); id = omega (arith, facts.id) };
-    }
 
 -- what a good description says, a header can tell
 pub description_told : (store : List ℕ) (d : Description) → sound store d ≡ true → length (described store d).payload < 2 ^ 32 → Tellable (described store d)

@@ -3,8 +3,10 @@ pub mod Composes
 pub mod Counted
 pub mod Described
 pub mod Encoded
+pub mod Filled
 pub mod Fitted
 pub mod Flags
 pub mod ReadBack
 pub mod Rebuilt
 pub mod Recomposes
+pub mod Written

@@ -77,7 +77,7 @@ record_rebuilt first bs byte g tight-s tight-n =
 -- ---- the whole message
 
 pub some_none : {p : ℕ} → ◌≡◌ {A = Option ℕ} (Some p) None → ⊥
-some_none {p} e = let z : ◌≡◌ {A = ℕ} 0 1 = cc in omega arith
+some_none {p} e = cc
 
 -- behind a record, nothing more comes just where the message ends
 pub none_at_end : (m : List ℕ) (p : ℕ) → 0 < p → p ≤ length m → fault (left m p) ≡ None → none (contents (left m p)) ≡ eqb p (length m)

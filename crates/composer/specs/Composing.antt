@@ -1,5 +1,5 @@
 -- What the composer and the recomposer answer, and what they leave in the space.
-use Rattle.std.specs.Prelude.{◌≡◌, ℕ, ◌+◌, ◌≤◌, Bool, cond, ◌&&◌, List, [], ◌∷◌, map, length, take, drop, Some, None, Ok, Err, Option, Result, nat_le, nat_lt, slice_index}
+use Rattle.std.specs.Prelude.{◌≡◌, ℕ, ◌+◌, ◌≤◌, Bool, if◌then◌else◌, ◌&&◌, List, [], ◌∷◌, map, length, take, drop, Some, None, Ok, Err, Option, Result, nat_le, nat_lt, slice_index}
 use Rattle.std.specs.List.{AllByRecursion}
 use Rattle.composer.specs.declared.description.Description.{Description}
 use Rattle.composer.specs.declared.description.Extent.{Extent}
@@ -35,7 +35,7 @@ sound store d = tellable d && inside store d.kind && inside store d.id && inside
 -- the index of the first bad one, counted from i
 abbrev pub first_bad : List ℕ → ℕ → List Description → Option ℕ
 first_bad store i [] = None
-first_bad store i (d ∷ ds) = cond (sound store d) (first_bad store (i + 1) ds) (Some i)
+first_bad store i (d ∷ ds) = if sound store d then first_bad store (i + 1) ds else Some i
 
 -- a message has at most so many bytes
 abbrev pub longest : ℕ
@@ -44,12 +44,12 @@ longest = 65534
 -- the length of a message that is to go into a space of so many bytes: refused where it is too long, or the space too short
 abbrev pub fitted : List ℕ → ℕ → Result ℕ RecordRefusal
 fitted m room =
-    cond (nat_lt longest (length m)) (Err (BadDescription 0)) (cond (nat_le (length m) room) (Ok (length m)) (Err SpaceShort))
+    if nat_lt longest (length m) then Err (BadDescription 0) else if nat_le (length m) room then Ok (length m) else Err SpaceShort
 
 -- the first bad description is refused before all else, then an empty list
 abbrev pub composed_by : Option ℕ → List Content → ℕ → Result ℕ RecordRefusal
 composed_by (Some i) cs room = Err (BadDescription i)
-composed_by None cs room = cond (none cs) (Err (BadDescription 0)) (fitted (message cs) room)
+composed_by None cs room = if none cs then Err (BadDescription 0) else fitted (message cs) room
 
 abbrev pub composed : List ℕ → List Description → ℕ → Result ℕ RecordRefusal
 composed store ds room = composed_by (first_bad store 0 ds) (map (described store) ds) room

@@ -4,7 +4,7 @@ use Rattle.composer.specs.declared.description.Description.{Description}
 use Rattle.composer.specs.declared.description.Extent.{Extent}
 use Rattle.composer.specs.declared.fields.Fields.{Fields}
 use Rattle.composer.specs.Composing.{field_of, described, inside, sound}
-use Rattle.composer.specs.Fields.{content_of, Brief}
+use Rattle.composer.specs.Fields.{content_of}
 
 -- the bytes are those of an extent inside the store
 pub record Names (store : List ℕ) (x : Extent) (bs : List ℕ) : Type 0 where
@@ -15,4 +15,3 @@ pub record Names (store : List ℕ) (x : Extent) (bs : List ℕ) : Type 0 where
 pub record Describes (store : List ℕ) (d : Description) (f : Fields) : Type 0 where
   pub sound : sound store d ≡ true
   pub content : content_of f ≡ described store d
-  pub brief : Brief (content_of f)

@@ -1,5 +1,6 @@
 pub mod Composing
 pub mod Describing
 pub mod Fields
-pub mod Lengths
 pub mod Message
+pub mod Records
+pub mod Writer

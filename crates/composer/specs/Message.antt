@@ -1,5 +1,5 @@
 -- The message of a list of records: each with the shortest header, MB on the first, ME on the last.
-use Rattle.std.specs.Prelude.{ℕ, ◌+◌, ◌/◌, ◌%◌, Bool, true, false, cond, List, [], ◌∷◌, ◌++◌, length, bit_or, nat_le, nat_lt}
+use Rattle.std.specs.Prelude.{ℕ, ◌+◌, ◌/◌, ◌%◌, Bool, true, false, if◌then◌else◌, List, [], ◌∷◌, ◌++◌, length, bit_or, nat_le, nat_lt}
 use Rattle.ndef.specs.Content.{Content}
 use Rattle.header.specs.Format.{number}
 use Rattle.header.specs.Header.{mb, me, sr, il}
@@ -14,7 +14,7 @@ named c = nat_lt 0 (length c.id)
 
 -- a bit that is on or off
 abbrev pub bit : Bool → ℕ → ℕ
-bit on n = cond on n 0
+bit on n = if on then n else 0
 
 -- the header's first byte
 abbrev pub header_byte : Bool → Bool → Bool → Bool → ℕ → ℕ
@@ -26,10 +26,10 @@ abbrev pub four_bytes : ℕ → List ℕ
 four_bytes n = (n / 16777216 % 256) ∷ (n / 65536 % 256) ∷ (n / 256 % 256) ∷ (n % 256) ∷ []
 
 abbrev pub payload_count : Content → List ℕ
-payload_count c = cond (short c) (length c.payload ∷ []) (four_bytes (length c.payload))
+payload_count c = if short c then length c.payload ∷ [] else four_bytes (length c.payload)
 
 abbrev pub id_count : Content → List ℕ
-id_count c = cond (named c) (length c.id ∷ []) []
+id_count c = if named c then length c.id ∷ [] else []
 
 -- the fixed part of the header
 abbrev pub header : Bool → Bool → Content → List ℕ
@@ -43,7 +43,7 @@ encoded first last c = header first last c ++ c.kind ++ c.id ++ c.payload
 -- how many bytes that takes
 abbrev pub encoded_length : Content → ℕ
 encoded_length c =
-    2 + cond (short c) 1 4 + cond (named c) 1 0 + length c.kind + length c.id + length c.payload
+    2 + (if short c then 1 else 4) + (if named c then 1 else 0) + length c.kind + length c.id + length c.payload
 
 abbrev pub none : List Content → Bool
 none [] = true

@@ -1,45 +1,40 @@
 // The composer: descriptions into a message.
-ghost use Rattle.std.specs.Prelude.{◌≡◌, ◌≤◌, map, length, None};
-ghost use Rattle.composer.specs.Composing.{Composes, described, first_bad, longest};
-ghost use Rattle.composer.specs.Lengths.{ComposedLength};
-ghost use Rattle.composer.specs.Message.{message};
-ghost use Rattle.space.specs.Space.{laid};
+ghost use Rattle.std.specs.Prelude.{◌≤◌, drop, length, map};
+ghost use Rattle.composer.specs.Composing.{Composes, described, first_bad};
+ghost use Rattle.composer.specs.Records.{bad_description};
 
 use crate::description::Description;
+use crate::fields::Fields;
+use crate::records::{Records, compose_all};
 use header::RecordRefusal;
 
-// The longest message.
-pub const LONGEST: usize = 65_534;
-
-// The length of the message that the descriptions make, whatever the space.
-fn composed_length(descriptions: &[Description], store: &[u8]) -> Result<usize, RecordRefusal>
-    ensures { ComposedLength descriptions.now store.now result }
-{
-    let mut total: usize = 0;
-    for (index, description) in descriptions.iter().enumerate() {
-        let Some(fields) = description.fields(store) else {
-            return Err(RecordRefusal::BadDescription { index });
-        };
-        total = total.saturating_add(fields.encoded_length());
-    }
-    if total == 0 || total > LONGEST {
-        return Err(RecordRefusal::BadDescription { index: 0 });
-    }
-    Ok(total)
+// The descriptions from `index` on, of one store.
+#[derive(Clone, Copy)]
+struct Described<'a> {
+    descriptions: &'a [Description],
+    store: &'a [u8],
+    index: usize,
+    ghost within: { index ≤ length descriptions.now },
 }
 
-// Lays the described records over the front of a space that has room for them.
-fn lay_all(descriptions: &[Description], store: &[u8], space: &mut [u8])
-    requires good { first_bad store.now 0 descriptions.now ≡ None }
-    requires few { length (message (map (described store.now) descriptions.now)) ≤ longest }
-    requires room { length (message (map (described store.now) descriptions.now)) ≤ length space.old }
-    ensures { space.new ≡ laid (message (map (described store.now) descriptions.now)) space.old }
-{
-    let mut at = 0;
-    for (index, description) in descriptions.iter().enumerate() {
-        if let Some(fields) = description.fields(store) {
-            at = fields.lay(space, at, index == 0, index + 1 == descriptions.len());
-        }
+impl<'a> Records<'a> for Described<'a> {
+    ghost left = { λ d. map (described d.store.now) (drop d.index d.descriptions.now) };
+
+    ghost fault = { λ d. bad_description (first_bad d.store.now d.index (drop d.index d.descriptions.now)) };
+
+    fn next_fields(&mut self) -> Result<Option<Fields<'a>>, RecordRefusal> {
+        let Some(description) = self.descriptions.get(self.index) else {
+            return Ok(None);
+        };
+        let fields = description
+            .fields(self.store)
+            .ok_or(RecordRefusal::BadDescription { index: self.index })?;
+        self.index += 1;
+        Ok(Some(fields))
+    }
+
+    fn is_over(&self) -> bool {
+        self.index == self.descriptions.len()
     }
 }
 
@@ -51,10 +46,10 @@ pub fn compose(
 ) -> Result<usize, RecordRefusal>
     ensures { Composes descriptions.now store.now space.old space.new result }
 {
-    let total = composed_length(descriptions, store)?;
-    if space.len() < total {
-        return Err(RecordRefusal::SpaceShort);
-    }
-    lay_all(descriptions, store, space);
-    Ok(total)
+    let described = Described {
+        descriptions,
+        store,
+        index: 0,
+    };
+    compose_all(described, space)
 }

@@ -6,15 +6,15 @@ ghost use Rattle.composer.specs.Describing.{Names, Describes};
 use crate::fields::Fields;
 use header::Format;
 
-// Where a part lies in the store.
-#[derive(Clone, Copy, Debug)]
+// Where a part lies in the store. Two numbers and no slice: one that does not lie in it has to be told and refused.
+#[derive(Clone, Copy, PartialEq, Eq, Debug)]
 pub struct Extent {
     pub place: usize,
     pub len: usize,
 }
 
 // One record of the message to compose.
-#[derive(Clone, Copy, Debug)]
+#[derive(Clone, Copy, PartialEq, Eq, Debug)]
 pub struct Description {
     pub format: Format,
     // the record's type
@@ -28,11 +28,7 @@ impl Extent {
     fn bytes<'a>(&self, store: &'a [u8]) -> Option<&'a [u8]>
         ensures { MatchOption result (inside store.now self.now ≡ false) (λ b. Names store.now self.now b.now) }
     {
-        let end = self.place.checked_add(self.len)?;
-        if end > store.len() {
-            return None;
-        }
-        Some(&store[self.place..end])
+        store.get(self.place..self.place.checked_add(self.len)?)
     }
 }
 
@@ -55,14 +51,11 @@ impl Description {
         if !self.is_tellable() {
             return None;
         }
-        let kind = self.kind.bytes(store)?;
-        let id = self.id.bytes(store)?;
-        let payload = self.payload.bytes(store)?;
         Some(Fields {
             format: self.format,
-            kind,
-            id,
-            payload,
+            kind: self.kind.bytes(store)?,
+            id: self.id.bytes(store)?,
+            payload: self.payload.bytes(store)?,
         })
     }
 }

@@ -1,12 +1,10 @@
 // A record's fields, and how they are laid down as bytes.
-ghost use Rattle.std.specs.Prelude.{◌≡◌, ℕ, ◌+◌, ◌^◌, ◌<◌, ◌≤◌, length, if◌then◌else◌};
-ghost use Rattle.composer.specs.Fields.{content_of, Brief};
+ghost use Rattle.std.specs.Prelude.{◌≡◌, ℕ, ◌+◌, ◌^◌, ◌<◌, ◌≤◌, ◌==◌, length, if◌then◌else◌};
 ghost use Rattle.header.specs.Format.{number as number_of};
-ghost use Rattle.ndef.specs.Reader.{entry_of};
-ghost use Rattle.ndef.specs.Reading.{content};
 ghost use Rattle.composer.specs.Message.{short, named, header_byte, payload_count, id_count, encoded, encoded_length};
-ghost use Rattle.space.specs.Space.{put as laid_at};
+ghost use Rattle.composer.specs.Writer.{Writes};
 
+use crate::writer::Writer;
 use header::{FIRST, Format, LAST, NAMED, SHORT};
 use ndef::Record;
 
@@ -17,6 +15,8 @@ pub(crate) struct Fields<'a> {
     pub(crate) kind: &'a [u8],
     pub(crate) id: &'a [u8],
     pub(crate) payload: &'a [u8],
+    ghost kind_is_brief: { length kind.now ≤ 255 },
+    ghost id_is_brief: { length id.now ≤ 255 },
 }
 
 // The bit, where it is on.
@@ -26,20 +26,14 @@ fn bit_if(on: bool, bit: u8) -> u8
     if on { bit } else { 0 }
 }
 
-// Copies the bytes into the space at `at`, and answers where they end.
-fn put(space: &mut [u8], at: usize, bytes: &[u8]) -> usize
-    requires { at + length bytes.now ≤ length space.old }
-    ensures after { space.new ≡ laid_at space.old at bytes.now }
-    ensures value { result ≡ at + length bytes.now }
-{
-    let end = at + bytes.len();
-    space[at..end].copy_from_slice(bytes);
-    end
-}
-
 impl<'a> Fields<'a> {
-    // The fields of a record, without their places.
+    ghost use Rattle.composer.specs.Fields.{content_of};
+    ghost use Rattle.ndef.specs.Reader.{IsBrief, entry_of};
+    ghost use Rattle.ndef.specs.Reading.{content};
+
+    // The fields of a record that was read, without their places. No `From`: a header has to be able to tell of it.
     pub(crate) fn of_record(record: &Record<'a>) -> Fields<'a>
+        requires { IsBrief «record».now }
         ensures { content_of result ≡ content (entry_of «record».now) }
     {
         Fields {
@@ -52,6 +46,8 @@ impl<'a> Fields<'a> {
 }
 
 impl Fields<'_> {
+    ghost use Rattle.composer.specs.Fields.{content_of};
+
     // SR: the payload's length takes one byte.
     fn is_short(&self) -> bool
         ensures { result ≡ short (content_of self.now) }
@@ -63,12 +59,11 @@ impl Fields<'_> {
     fn is_named(&self) -> bool
         ensures { result ≡ named (content_of self.now) }
     {
-        self.id.len() > 0
+        !self.id.is_empty()
     }
 
     // How many bytes the record takes.
     pub(crate) fn encoded_length(&self) -> usize
-        requires { Brief (content_of self.now) }
         ensures { result ≡ encoded_length (content_of self.now) }
     {
         let payload = if self.is_short() { 1 } else { 4 };
@@ -88,47 +83,41 @@ impl Fields<'_> {
     }
 
     // The payload's length: one byte, or four.
-    fn put_payload_length(&self, space: &mut [u8], at: usize) -> usize
-        requires payload_len_bound { length self.now.payload.now < 2 ^ 32 }
-        requires self_in_bounds { at + length (payload_count (content_of self.now)) ≤ length space.old }
-        ensures after { space.new ≡ laid_at space.old at (payload_count (content_of self.now)) }
-        ensures value { result ≡ at + length (payload_count (content_of self.now)) }
+    fn put_payload_length(&self, writer: &mut Writer)
+        requires small { length self.now.payload.now < 2 ^ 32 }
+        requires room { writer.old.at + length (payload_count (content_of self.now)) ≤ length writer.old.space.now }
+        ensures { Writes writer.old writer.new (payload_count (content_of self.now)) }
     {
         let count = self.payload.len();
         if self.is_short() {
-            put(space, at, &[count as u8])
+            writer.put(&[count as u8]);
         } else {
-            put(space, at, &(count as u32).to_be_bytes())
+            writer.put(&(count as u32).to_be_bytes());
         }
     }
 
     // The ID's length, where there is an ID.
-    fn put_id_length(&self, space: &mut [u8], at: usize) -> usize
-        requires id_len_bound { length self.now.id.now ≤ 255 }
-        requires self_in_bounds { at + length (id_count (content_of self.now)) ≤ length space.old }
-        ensures after { space.new ≡ laid_at space.old at (id_count (content_of self.now)) }
-        ensures value { result ≡ at + length (id_count (content_of self.now)) }
+    fn put_id_length(&self, writer: &mut Writer)
+        requires { writer.old.at + length (id_count (content_of self.now)) ≤ length writer.old.space.now }
+        ensures { Writes writer.old writer.new (id_count (content_of self.now)) }
     {
         if self.is_named() {
-            put(space, at, &[self.id.len() as u8])
-        } else {
-            at
+            writer.put(&[self.id.len() as u8]);
         }
     }
 
-    // Lays the record into the space at `at`, and answers where it ends.
-    pub(crate) fn lay(&self, space: &mut [u8], at: usize, first: bool, last: bool) -> usize
-        requires brief { Brief (content_of self.now) }
-        requires payload_len_bound { length self.now.payload.now < 2 ^ 32 }
-        requires self_in_bounds { at + encoded_length (content_of self.now) ≤ length space.old }
-        ensures after { space.new ≡ laid_at space.old at (encoded first last (content_of self.now)) }
-        ensures value { result ≡ at + encoded_length (content_of self.now) }
+    // The whole record; it is the message's first where nothing was written before.
+    pub(crate) fn put(&self, writer: &mut Writer, last: bool)
+        requires small { length self.now.payload.now < 2 ^ 32 }
+        requires room { writer.old.at + encoded_length (content_of self.now) ≤ length writer.old.space.now }
+        ensures { Writes writer.old writer.new (encoded (writer.old.at == 0) last (content_of self.now)) }
     {
-        let kind_at = put(space, at, &[self.flags(first, last), self.kind.len() as u8]);
-        let payload_at = self.put_payload_length(space, kind_at);
-        let fixed_end = self.put_id_length(space, payload_at);
-        let kind_end = put(space, fixed_end, self.kind);
-        let id_end = put(space, kind_end, self.id);
-        put(space, id_end, self.payload)
+        let first = writer.is_at_start();
+        writer.put(&[self.flags(first, last), self.kind.len() as u8]);
+        self.put_payload_length(writer);
+        self.put_id_length(writer);
+        writer.put(self.kind);
+        writer.put(self.id);
+        writer.put(self.payload);
     }
 }

@@ -5,7 +5,10 @@ mod composer;
 mod description;
 mod fields;
 mod recomposer;
+mod records;
+mod writer;
 
-pub use composer::{LONGEST, compose};
+pub use composer::compose;
 pub use description::{Description, Extent};
 pub use recomposer::recompose;
+pub use records::LONGEST;

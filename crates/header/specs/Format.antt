@@ -1,5 +1,5 @@
 -- The type name format (TNF) of a record: the three bits of each, and the lengths that each allows.
-use Rattle.std.specs.Prelude.{Bool, true, false, cond, ◌&&◌, ℕ, ◌==◌}
+use Rattle.std.specs.Prelude.{Bool, true, false, if◌then◌else◌, ◌&&◌, ℕ, ◌==◌}
 use Rattle.std.specs.Int.Bits.{bit_and}
 use Rattle.header.specs.declared.format.Format.{Format}
 use Rattle.header.specs.declared.format.Format.TheVariants.{Empty, WellKnown, Media, Uri, External, Unknown, Unchanged, Reserved}
@@ -17,7 +17,8 @@ number Reserved = 7
 
 -- the format whose bits are n
 abbrev pub format_at : ℕ → Format
-format_at n = cond (n == 0) Empty (cond (n == 1) WellKnown (cond (n == 2) Media (cond (n == 3) Uri (cond (n == 4) External (cond (n == 5) Unknown (cond (n == 6) Unchanged Reserved))))))
+format_at n =
+    if n == 0 then Empty else if n == 1 then WellKnown else if n == 2 then Media else if n == 3 then Uri else if n == 4 then External else if n == 5 then Unknown else if n == 6 then Unchanged else Reserved
 
 -- the format that a header's first byte names, in its low three bits
 abbrev pub format_of : ℕ → Format

@@ -1,5 +1,5 @@
 -- A record's header: what each bit of its first byte says, and how long its fixed part is.
-use Rattle.std.specs.Prelude.{Bool, cond, not, ℕ, ◌+◌, ◌==◌}
+use Rattle.std.specs.Prelude.{Bool, if◌then◌else◌, not, ℕ, ◌+◌, ◌==◌}
 use Rattle.std.specs.Int.Bits.{bit_and}
 
 -- MB: the first record of its message
@@ -28,4 +28,4 @@ has bit flags = not (bit_and flags bit == 0)
 
 -- the length of the fixed part: flags, type length, payload length, and the ID length where there is one
 abbrev pub fixed : ℕ → ℕ
-fixed flags = 2 + cond (has sr flags) 1 4 + cond (has il flags) 1 0
+fixed flags = 2 + (if has sr flags then 1 else 4) + (if has il flags then 1 else 0)

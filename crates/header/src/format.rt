@@ -16,7 +16,7 @@ pub enum Format {
 }
 
 impl Format {
-    // The format that the low three bits of `flags` name.
+    // The format that the low three bits of `flags` name. No `From<u8>`: that would hide that the upper five count for nothing.
     pub fn from_flags(flags: u8) -> Format
         ensures { result ≡ format_of flags }
     {
@@ -35,7 +35,7 @@ impl Format {
     // The bits of a header that name this format.
     pub const MASK: u8 = 0x07;
 
-    // The value of the three bits.
+    // The value of the three bits. A method and no `From`, since `u8::from(format)` would not say which number it is.
     pub fn number(self) -> u8
         ensures { result ≡ number self }
     {

@@ -1,4 +1,4 @@
-// The first byte of a record's header, bit by bit.
+// The first byte of a record's header, bit by bit: a plain byte, as it is read and written, and no plainer as a type of its own.
 ghost use Rattle.std.specs.Prelude.{◌≡◌, ℕ};
 ghost use Rattle.header.specs.Header.{has, fixed};
 

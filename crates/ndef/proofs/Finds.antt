@@ -1,5 +1,6 @@
 -- From the lengths of a record to the record, and from the record to what the reader hands out. Assumes nothing.
-use Rattle.std.proofs.Common.{◌≡◌, ℕ, zero, suc, ◌+◌, ◌≤◌, false, eqb, List, [], ◌∷◌, length, take, drop, sym, refl, ap, ◌∙◌, arith, length-drop}
+use Rattle.std.proofs.Common.{◌≡◌, ℕ, ◌+◌, ◌≤◌, false, eqb, List, length, take, drop, sym, ap, ◌∙◌, arith, length-take}
+use Rattle.std.proofs.lemmas.List.{take_min}
 use Rattle.ndef.specs.declared.layout.Layout.{Layout}
 use Rattle.ndef.specs.declared.record.Part.{Part}
 use Rattle.ndef.specs.declared.record.Record.{Record}
@@ -15,13 +16,6 @@ pub record Parts (m : List ℕ) (p : ℕ) (l : Layout) (kind id payload : Part) 
   pub payload_at : stretch_of payload ≡ stretch m (id.place + l.id) l.payload
 
 module _ (m : List ℕ) (p : ℕ) (l : Layout) (lays : Lays (eqb p 0) (drop p m) l) where
-  -- every part ends within the message
-  pub ends_within : p ≤ length m → p + l.fixed + l.kind + l.id + l.payload ≤ length m
-  ends_within h =
-      let facts = good_facts (eqb p 0) (drop p m) lays.good in
-      let long = length-drop p m in
-      omega (arith, facts.within, lays.fixed, lays.kind, lays.id, lays.payload)
-
   pub found : (kind id payload : Part) → Parts m p l kind id payload → Found m p (record { place = p; format = l.format; kind = kind; id = id; payload = payload })
   found kind id payload parts =
       let fixed-is = lays.fixed in
@@ -41,9 +35,7 @@ module _ (m : List ℕ) (p : ℕ) (l : Layout) (lays : Lays (eqb p 0) (drop p m)
 
 -- what a front of a list has is that many of the list's
 own_length : (n : ℕ) (xs : List ℕ) → take n xs ≡ take (length (take n xs)) xs
-own_length zero xs = refl
-own_length (suc n) [] = refl
-own_length (suc n) (x ∷ xs) = ap (λ l. x ∷ l) (own_length n xs)
+own_length n xs = sym (ap (λ k. take k xs) (length-take n xs) ∙ take_min n xs)
 
 lies : (m : List ℕ) (part : Part) (n : ℕ) {place : ℕ} → stretch_of part ≡ stretch m place n → Lies m part
 lies m part n {place} e =

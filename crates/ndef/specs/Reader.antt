@@ -47,6 +47,11 @@ pub record Handed (m : List ℕ) (p q : ℕ) (r : Record) : Type 0 where
 abbrev pub behind : Record → ℕ
 behind r = r.payload.place + length r.payload.bytes.now
 
+-- the lengths of its type and its ID take one byte each
+pub record IsBrief (r : Record) : Type 0 where
+  pub kind : length r.kind.bytes.now ≤ 255
+  pub id : length r.id.bytes.now ≤ 255
+
 -- what there is at p
 abbrev pub Next : List ℕ → ℕ → Result (Option Record) RecordRefusal → Type 0
 Next m p (Ok (Some r)) = Handed m p (behind r) r × (behind r ≤ length m)

@@ -1,5 +1,5 @@
 -- What a message says: its records, one after the other, up to its end or to the first bad header.
-use Rattle.std.specs.Prelude.{ℕ, zero, suc, ◌+◌, ◌-◌, ◌*◌, ◌<◌, Bool, cond, not, ◌&&◌, List, [], ◌∷◌, length, take, drop, Some, None, Option, ◌==◌, nat_le, nat_lt, slice_index}
+use Rattle.std.specs.Prelude.{ℕ, zero, suc, ◌+◌, ◌-◌, ◌*◌, ◌<◌, Bool, if◌then◌else◌, not, ◌&&◌, List, [], ◌∷◌, length, take, drop, Some, None, Option, ◌==◌, nat_le, nat_lt, slice_index}
 use Rattle.std.specs.Bool.{beq}
 use Rattle.header.specs.declared.format.Format.{Format}
 use Rattle.ndef.specs.Content.{Content}
@@ -24,10 +24,11 @@ abbrev pub kind_length : List ℕ → ℕ
 kind_length bs = slice_index bs 1
 
 abbrev pub payload_length : List ℕ → ℕ
-payload_length bs = cond (has sr (flags_of bs)) (slice_index bs 2) (wide (slice_index bs 2) (slice_index bs 3) (slice_index bs 4) (slice_index bs 5))
+payload_length bs =
+    if has sr (flags_of bs) then slice_index bs 2 else wide (slice_index bs 2) (slice_index bs 3) (slice_index bs 4) (slice_index bs 5)
 
 abbrev pub id_length : List ℕ → ℕ
-id_length bs = cond (has il (flags_of bs)) (slice_index bs (fixed (flags_of bs) - 1)) 0
+id_length bs = if has il (flags_of bs) then slice_index bs (fixed (flags_of bs) - 1) else 0
 
 -- the whole record: the fixed part, then type, ID and payload
 abbrev pub size : List ℕ → ℕ
@@ -93,8 +94,9 @@ over m p = nat_lt 0 p && p == length m
 unfoldable pub listing : ℕ → List ℕ → ℕ → Listing
 listing zero m p = ended
 listing (suc turns) m p =
-    cond (over m p) ended
-    (cond (good_at m p) (one (entry_at m p) (listing turns m (p + size (drop p m)))) (bad p))
+    if over m p then ended
+    else if good_at m p then one (entry_at m p) (listing turns m (p + size (drop p m)))
+    else bad p
 
 -- the records from p on: a record takes a byte at least, so there are fewer turns than bytes
 unfoldable pub left : List ℕ → ℕ → Listing

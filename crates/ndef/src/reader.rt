@@ -1,68 +1,18 @@
 // The record reader: it borrows a message and hands out its records one by one.
-ghost use Rattle.std.specs.Prelude.{◌≡◌, ℕ, ◌+◌, ◌≤◌, false, length, MatchOption};
-ghost use Rattle.ndef.specs.Reader.{Found, Hands, Next, stretch_of};
+ghost use Rattle.std.specs.Prelude.{◌≡◌, ℕ, ◌+◌, ◌≤◌, false, length, IfOk, IfSome, MatchOption};
+ghost use Rattle.ndef.specs.Reader.{Found, Hands, IsBrief, Next, stretch_of};
 ghost use Rattle.ndef.specs.Reading.{good_at, over, stretch};
 
 use crate::layout::Layout;
 use crate::record::{Part, Record};
 use header::RecordRefusal;
 
-#[derive(Drop)]
+#[derive(Clone, Copy)]
 pub struct Reader<'a> {
     message: &'a [u8],
     // the next header's place, or the message's end
     place: usize,
     ghost within: { place ≤ length message.now },
-}
-
-// The `count` bytes of the message from `place` on.
-fn part(message: &[u8], place: usize, count: usize) -> Part<'_>
-    requires { place + count ≤ length message.now }
-    ensures { stretch_of result ≡ stretch message.now place count }
-{
-    Part {
-        place,
-        bytes: &message[place..place + count],
-    }
-}
-
-// The record whose header is at `place`, if it is good.
-fn record_at(message: &[u8], place: usize) -> Option<Record<'_>>
-    requires { place ≤ length message.now }
-    ensures { MatchOption result (good_at message.now place ≡ false) (Found message.now place) }
-{
-    let layout = Layout::read(&message[place..], place == 0)?;
-    let kind = part(message, place + layout.fixed, layout.kind);
-    let id = part(message, kind.place + layout.kind, layout.id);
-    let payload = part(message, id.place + layout.id, layout.payload);
-    Some(Record {
-        place,
-        format: layout.format,
-        kind,
-        id,
-        payload,
-    })
-}
-
-// Whether the message is over at `place`: there was a record, and nothing is left.
-fn over_at(message: &[u8], place: usize) -> bool
-    ensures { result ≡ over message.now place }
-{
-    place > 0 && place == message.len()
-}
-
-// What a reader of the message hands out at `place`.
-fn next_at(message: &[u8], place: usize) -> Result<Option<Record<'_>>, RecordRefusal>
-    requires { place ≤ length message.now }
-    ensures { Next message.now place result }
-{
-    if over_at(message, place) {
-        return Ok(None);
-    }
-    match record_at(message, place) {
-        Some(record) => Ok(Some(record)),
-        None => Err(RecordRefusal::BadHeader { place }),
-    }
 }
 
 impl<'a> Reader<'a> {
@@ -74,24 +24,66 @@ impl<'a> Reader<'a> {
         Reader { message, place: 0 }
     }
 
-    // Whether the message is over: its last record was handed out.
+    // Whether the message is over: its last record was handed out, so there was one, and nothing is left.
     pub fn is_over(&self) -> bool
         ensures { result ≡ over self.now.message.now self.now.place }
     {
-        over_at(self.message, self.place)
+        self.place > 0 && self.place == self.message.len()
+    }
+
+    // The `count` bytes of the message from `place` on.
+    fn part(&self, place: usize, count: usize) -> Part<'a>
+        requires { place + count ≤ length self.now.message.now }
+        ensures { stretch_of result ≡ stretch self.now.message.now place count }
+    {
+        Part {
+            place,
+            bytes: &self.message[place..place + count],
+        }
+    }
+
+    // The record whose header is next, if it is good.
+    fn record(&self) -> Option<Record<'a>>
+        ensures found { MatchOption result (good_at self.now.message.now self.now.place ≡ false) (Found self.now.message.now self.now.place) }
+        ensures brief { IfSome result IsBrief }
+    {
+        let layout = Layout::read(&self.message[self.place..], self.place == 0)?;
+        let kind = self.part(self.place + layout.fixed, layout.kind);
+        let id = self.part(kind.place + layout.kind, layout.id);
+        let payload = self.part(id.place + layout.id, layout.payload);
+        Some(Record {
+            place: self.place,
+            format: layout.format,
+            kind,
+            id,
+            payload,
+        })
+    }
+
+    // What the reader hands out next.
+    fn peek(&self) -> Result<Option<Record<'a>>, RecordRefusal>
+        ensures next { Next self.now.message.now self.now.place result }
+        ensures brief { IfOk result (λ next. IfSome next IsBrief) }
+    {
+        if self.is_over() {
+            return Ok(None);
+        }
+        let Some(record) = self.record() else {
+            return Err(RecordRefusal::BadHeader { place: self.place });
+        };
+        Ok(Some(record))
     }
 
     // The next record; none behind the last one; a refusal at a bad header, now and at each later call.
     pub fn next_record(&mut self) -> Result<Option<Record<'a>>, RecordRefusal>
         ensures message { self.new.message.now ≡ self.old.message.now }
         ensures hands { Hands self.old.message.now self.old.place self.new.place result }
+        ensures brief { IfOk result (λ next. IfSome next IsBrief) }
     {
-        match next_at(self.message, self.place)? {
-            Some(record) => {
-                self.place = record.payload.place + record.payload.bytes.len();
-                Ok(Some(record))
-            }
-            None => Ok(None),
+        let next = self.peek()?;
+        if let Some(record) = next {
+            self.place = record.payload.place + record.payload.bytes.len();
         }
+        Ok(next)
     }
 }

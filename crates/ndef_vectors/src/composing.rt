@@ -35,15 +35,11 @@ fn makes(
     message: &[u8],
 ) -> Result<(), Fail> {
     let mut space = [0xEEu8; 400];
-    match compose(descriptions, store, &mut space) {
-        Ok(n) => {
-            assert_eq!(rt; n, message.len());
-            assert!(rt; space.starts_with(message));
-            assert!(rt; space.get(n).copied() == Some(0xEE));
-            Ok(())
-        }
-        Err(_) => Err(Fail::new("not composed")),
-    }
+    let n = compose(descriptions, store, &mut space)?;
+    assert_eq!(rt; n, message.len());
+    assert!(rt; space.starts_with(message));
+    assert!(rt; space.get(n).copied() == Some(0xEE));
+    Ok(())
 }
 
 // Refused, and the space stays as it was.
@@ -55,15 +51,13 @@ fn refuses(
     place: usize,
 ) -> Result<(), Fail> {
     let mut space = [0xEEu8; 20];
-    match compose(descriptions, store, &mut space) {
-        Ok(_) => Err(Fail::new("not refused")),
-        Err(refusal) => {
-            assert_eq!(rt; refusal.number(), number);
-            assert_eq!(rt; refusal.place(), place);
-            assert!(rt; space == [0xEEu8; 20]);
-            Ok(())
-        }
-    }
+    let refusal = compose(descriptions, store, &mut space)
+        .err()
+        .ok_or("not refused")?;
+    assert_eq!(rt; refusal.number(), number);
+    assert_eq!(rt; refusal.place(), place);
+    assert!(rt; space == [0xEEu8; 20]);
+    Ok(())
 }
 
 #[test]
@@ -146,12 +140,10 @@ fn longest_message(rt: HostRuntime) -> Result<(), Fail> {
         place: 0,
         len: 65_528,
     };
-    match compose(&[description], &store, &mut space) {
-        Ok(_) => Err(Fail::new("one byte too long, and composed")),
-        Err(refusal) => {
-            assert_eq!(rt; refusal.number(), 31);
-            assert_eq!(rt; refusal.place(), 0);
-            Ok(())
-        }
-    }
+    let refusal = compose(&[description], &store, &mut space)
+        .err()
+        .ok_or("one byte too long, and composed")?;
+    assert_eq!(rt; refusal.number(), 31);
+    assert_eq!(rt; refusal.place(), 0);
+    Ok(())
 }

@@ -15,11 +15,7 @@ struct Row<'a> {
 }
 
 fn next<'a>(reader: &mut Reader<'a>) -> Result<Record<'a>, Fail> {
-    match reader.next_record() {
-        Ok(Some(record)) => Ok(record),
-        Ok(None) => Err(Fail::new("the message ended early")),
-        Err(_) => Err(Fail::new("refused early")),
-    }
+    Ok(reader.next_record()?.ok_or("the message ended early")?)
 }
 
 fn same(rt: &impl Abort, record: &Record<'_>, row: &Row<'_>) {
@@ -36,23 +32,19 @@ fn reads(rt: &impl Abort, message: &[u8], rows: &[Row<'_>]) -> Result<(), Fail> 
     for row in rows {
         same(rt, &next(&mut reader)?, row);
     }
-    assert!(rt; matches!(reader.next_record(), Ok(None)));
-    assert!(rt; matches!(reader.next_record(), Ok(None)));
+    assert_eq!(rt; reader.next_record()?, None);
+    assert_eq!(rt; reader.next_record()?, None);
     Ok(())
 }
 
 // Composed again, the message is the same bytes.
 fn comes_back(rt: &impl Abort, message: &[u8]) -> Result<(), Fail> {
     let mut space = [0xEEu8; 400];
-    match recompose(message, &mut space) {
-        Ok(n) => {
-            assert_eq!(rt; n, message.len());
-            assert!(rt; space.starts_with(message));
-            assert!(rt; space.get(n).copied() == Some(0xEE));
-            Ok(())
-        }
-        Err(_) => Err(Fail::new("not composed again")),
-    }
+    let n = recompose(message, &mut space)?;
+    assert_eq!(rt; n, message.len());
+    assert!(rt; space.starts_with(message));
+    assert!(rt; space.get(n).copied() == Some(0xEE));
+    Ok(())
 }
 
 // After so many good records the header at `place` is refused, and again at the next call.
@@ -62,13 +54,9 @@ fn refuses(rt: &impl Abort, message: &[u8], good: usize, place: usize) -> Result
         let _ = next(&mut reader)?;
     }
     for _ in 0..2 {
-        match reader.next_record() {
-            Ok(_) => return Err(Fail::new("not refused")),
-            Err(refusal) => {
-                assert_eq!(rt; refusal.number(), 30);
-                assert_eq!(rt; refusal.place(), place);
-            }
-        }
+        let refusal = reader.next_record().err().ok_or("not refused")?;
+        assert_eq!(rt; refusal.number(), 30);
+        assert_eq!(rt; refusal.place(), place);
     }
     Ok(())
 }

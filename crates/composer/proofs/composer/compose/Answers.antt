@@ -1,5 +1,5 @@
-use Rattle.std.proofs.Common.{arith}
+use Rattle.composer.proofs.Composes.{composes}
 use Rattle.composer.proofs.composer.compose.Goals as goal
 
 pub returns : goal.returns
-returns c = c.in_ok-total.ensures.enough _ _ (omega arith) c.lay_all.ensures
+returns c = composes _ _ _ _ _ c.compose_all.ensures.answer c.compose_all.ensures.after
