@@ -1,2 +1,1 @@
 pub mod Benches
-pub mod Puts

@@ -8,9 +8,10 @@ use Rattle.tag.specs.Means.{Takes, laid_by}
 use Rattle.tag.specs.Rules.{turn}
 use Rattle.tag.specs.Tag.{TagModel}
 use Rattle.field.specs.declared.heard.Heard.{Heard}
-use Rattle.field.specs.declared.heard.Heard.TheVariants.{Nothing, One}
+use Rattle.field.specs.declared.heard.Heard.TheVariants.{Nothing}
 use Rattle.field.specs.declared.span.Span.{Span}
 use Rattle.field.specs.declared.span.Span.TheVariants.{Endless, Left}
+pub use Rattle.field.specs.Exchange.{heard_by}
 use Rattle.field.specs.Exchange.{hears, says, heard_from, laid_all, heard_of, together, Exchange}
 use Rattle.field.specs.Placed.{Placed, SoundAll}
 use Rattle.field.specs.Span.{fallen, reaches, answers}
@@ -25,16 +26,19 @@ pub heard-append : (f : List ℕ) (xs ys : List Placed) → heard_from f (xs ++ 
 unfolding heard_from
 heard-append f xs ys = joined_append (says f) xs ys
 
-laid-append : (xs ys : List (List ℕ)) (s : List ℕ) → laid_all (xs ++ ys) s ≡ laid_all ys (laid_all xs s)
+pub laid-append : (xs ys : List (List ℕ)) (s : List ℕ) → laid_all (xs ++ ys) s ≡ laid_all ys (laid_all xs s)
 laid-append [] ys s = refl
 laid-append (x ∷ xs) ys s = laid-append xs ys _
 
-counted-append : (xs ys : List (List ℕ)) → heard_of (xs ++ ys) ≡ together (heard_of xs) (heard_of ys)
+pub counted-append : (xs ys : List (List ℕ)) → heard_of (xs ++ ys) ≡ together (heard_of xs) (heard_of ys)
 counted-append [] ys = refl
 counted-append (a ∷ []) [] = refl
 counted-append (a ∷ []) (b ∷ []) = refl
 counted-append (a ∷ []) (b ∷ c ∷ ys) = refl
 counted-append (a ∷ b ∷ xs) ys = refl
+
+-- each part of an exchange of two fields, for `grind`
+pub ruleset appended = (map-append, heard-append, laid-append, counted-append)
 
 pub exchange_both : {ls ls' rs rs' : List Placed} {f s s' s'' : List ℕ} {a b : Heard} → Exchange ls ls' f s s' a → Exchange rs rs' f s' s'' b → Exchange (ls ++ rs) (ls' ++ rs') f s s'' (together a b)
 exchange_both {ls} {ls'} {rs} {rs'} {f} {s} {s'} {s''} {a} {b} x y =
@@ -58,11 +62,6 @@ sound_both (l ∷ ls) rs x y = (x.0, sound_both ls rs x.1 y)
 pub answers-reaches : (sp : Span) → answers sp ≡ true → reaches sp ≡ true
 answers-reaches Endless e = refl
 answers-reaches (Left n) e = lt-ltb 0 n (let h = ltb-true 1 n e in omega arith)
-
--- a number of bytes, or silence, as it is heard
-abbrev pub heard_by : Option ℕ → Heard
-heard_by None = Nothing
-heard_by (Some n) = One n
 
 said : (o : Option (List ℕ)) (s : List ℕ) → laid_all (option_to_list o) s ≡ laid_by o s
 said None s = refl

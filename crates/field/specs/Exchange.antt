@@ -1,5 +1,5 @@
 -- One exchange: what each tag makes of the frame, and what is heard.
-use Rattle.std.specs.Prelude.{◌≡◌, ℕ, ◌<◌, ◌≤◌, cond, List, [], ◌∷◌, map, length, Ok, Err, Result}
+use Rattle.std.specs.Prelude.{◌≡◌, ℕ, ◌<◌, ◌≤◌, if◌then◌else◌, List, [], ◌∷◌, map, length, Some, None, Ok, Err, Option, Result}
 use Rattle.std.specs.List.{flat_map}
 use Rattle.std.specs.Option.{option_to_list}
 use Rattle.space.specs.Space.{laid}
@@ -15,11 +15,11 @@ use Rattle.field.specs.Span.{fallen, reaches, answers}
 -- a tag after the frame
 unfoldable pub hears : List ℕ → Placed → Placed
 hears f p =
-    record { tag = cond (reaches p.span) (turn p.tag f).after p.tag; span = fallen p.span }
+    record { tag = if reaches p.span then (turn p.tag f).after else p.tag; span = fallen p.span }
 
 -- its answer, if it has one that comes back
 unfoldable pub says : List ℕ → Placed → List (List ℕ)
-says f p = cond (answers p.span) (option_to_list (turn p.tag f).says) []
+says f p = if answers p.span then option_to_list (turn p.tag f).says else []
 
 -- the answers of a list of tags, in order
 unfoldable pub heard_from : List ℕ → List Placed → List (List ℕ)
@@ -35,6 +35,11 @@ abbrev pub heard_of : List (List ℕ) → Heard
 heard_of [] = Nothing
 heard_of (a ∷ []) = One (length a)
 heard_of (a ∷ b ∷ more) = Several
+
+-- a number of bytes, or silence, as it is heard
+abbrev pub heard_by : Option ℕ → Heard
+heard_by None = Nothing
+heard_by (Some n) = One n
 
 abbrev pub together : Heard → Heard → Heard
 together Nothing h = h

@@ -1,5 +1,5 @@
 // What an answer says.
-ghost use Rattle.std.specs.Prelude.{◌≡◌, ◌≤◌, length, drop};
+ghost use Rattle.std.specs.Prelude.{◌≡◌};
 ghost use Rattle.field.specs.Decode.{Decodes, number_of};
 
 // Why an answer gives no data.
@@ -23,23 +23,13 @@ impl AnswerRefusal {
     }
 }
 
-// What stands behind the first byte.
-fn behind_first(answer: &[u8]) -> &[u8]
-    requires { 1 ≤ length answer.now }
-    ensures { result.now ≡ drop 1 answer.now }
-{
-    &answer[1..]
-}
-
 // The data of an answer that is to have so many bytes of it.
 pub fn decode(answer: &[u8], expected: usize) -> Result<&[u8], AnswerRefusal>
     ensures { Decodes answer.now expected result }
 {
-    if answer.len() > 0 && answer.len() - 1 == expected && answer[0] == 0 {
-        return Ok(behind_first(answer));
+    match answer {
+        [0, data @ ..] if data.len() == expected => Ok(data),
+        &[1, code] => Err(AnswerRefusal::TagError { code }),
+        _ => Err(AnswerRefusal::NotUnderstood),
     }
-    if answer.len() == 2 && answer[0] == 1 {
-        return Err(AnswerRefusal::TagError { code: answer[1] });
-    }
-    Err(AnswerRefusal::NotUnderstood)
 }

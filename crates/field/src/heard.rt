@@ -1,6 +1,6 @@
 // What a gate hears of one exchange.
 ghost use Rattle.std.specs.Prelude.{◌≡◌};
-ghost use Rattle.field.specs.Exchange.{together};
+ghost use Rattle.field.specs.Exchange.{heard_by, together};
 
 #[derive(Clone, Copy, PartialEq, Eq, Debug)]
 pub enum Heard {
@@ -18,6 +18,18 @@ impl Heard {
         match (self, other) {
             (Heard::Nothing, heard) | (heard, Heard::Nothing) => heard,
             (Heard::One(_) | Heard::Several, Heard::One(_) | Heard::Several) => Heard::Several,
+        }
+    }
+}
+
+// What is heard of one tag: the length of its answer, or nothing.
+impl From<Option<usize>> for Heard {
+    ghost from_gives = { λ said heard. heard ≡ heard_by said };
+
+    fn from(said: Option<usize>) -> Heard {
+        match said {
+            Some(length) => Heard::One(length),
+            None => Heard::Nothing,
         }
     }
 }

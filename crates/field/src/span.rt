@@ -2,8 +2,11 @@
 ghost use Rattle.std.specs.Prelude.{◌≡◌};
 ghost use Rattle.field.specs.Span.{fallen, reaches, answers};
 
+use std::fmt;
+
 // A span is counted in half exchanges: an exchange that is answered takes two. At 1 the tag still carries a frame out, but
-// its answer is lost; at 0 it gets no frame.
+// its answer is lost; at 0 it gets no frame. An Option<u64> could have no such methods, and its None would have to mean
+// for good.
 #[derive(Clone, Copy, PartialEq, Eq, Debug)]
 pub enum Span {
     Endless,
@@ -38,6 +41,15 @@ impl Span {
         match self {
             Span::Endless => true,
             Span::Left(n) => n > 1,
+        }
+    }
+}
+
+impl fmt::Display for Span {
+    fn fmt<W: fmt::Write>(&self, f: &mut fmt::Formatter<W>) -> fmt::Result {
+        match self {
+            Span::Endless => f.write_str("endless"),
+            Span::Left(n) => write!(f, "{n}"),
         }
     }
 }

@@ -18,7 +18,7 @@ mod tests {
     // A tag of one block, whose four bytes are its UID.
     fn tag(heap: Global, uid: u8) -> Result<Tag<Bench>, Fail> {
         let memory = Bench::new(
-            BlockLength::new(4)?,
+            BlockLength::try_from(4)?,
             [uid; 4].to_vec(heap)?,
             [0u8].to_vec(heap)?,
         );
@@ -260,5 +260,13 @@ mod tests {
         is_refused(&rt, b"\x01\x10\x00", 2, AnswerRefusal::NotUnderstood, 22)?;
         is_refused(&rt, b"\x02\x10", 1, AnswerRefusal::NotUnderstood, 22)?;
         is_refused(&rt, b"", 0, AnswerRefusal::NotUnderstood, 22)
+    }
+
+    #[test]
+    fn spans_print(rt: HostRuntime) -> Result<(), Fail> {
+        let [stays, leaves] = [Span::Endless, Span::Left(7)];
+        let text = format!(in rt.alloc(); "{stays} {leaves}")?;
+        assert!(rt; text.as_str() == "endless 7");
+        Ok(())
     }
 }

@@ -6,17 +6,19 @@ use crate::refusal::MemoryRefusal;
 
 #[derive(Clone, Copy, PartialEq, Eq, Debug)]
 pub enum BlockLength {
-    Four,
-    Eight,
-    Sixteen,
-    ThirtyTwo,
+    Four = 4,
+    Eight = 8,
+    Sixteen = 16,
+    ThirtyTwo = 32,
 }
 
-impl BlockLength {
-    // The one check that makes a block length of a number.
-    pub fn new(length: usize) -> Result<BlockLength, MemoryRefusal>
-        ensures { result ≡ listed length }
-    {
+// The one check that makes a block length of a number.
+impl TryFrom<usize> for BlockLength {
+    type Error = MemoryRefusal;
+
+    ghost try_from_gives = { λ length result. result ≡ listed length };
+
+    fn try_from(length: usize) -> Result<BlockLength, MemoryRefusal> {
         match length {
             4 => Ok(BlockLength::Four),
             8 => Ok(BlockLength::Eight),
@@ -25,27 +27,19 @@ impl BlockLength {
             _ => Err(MemoryRefusal::NotListed),
         }
     }
+}
 
+impl BlockLength {
     pub fn bytes(self) -> usize
         ensures { result ≡ bytes_of self }
     {
-        match self {
-            BlockLength::Four => 4,
-            BlockLength::Eight => 8,
-            BlockLength::Sixteen => 16,
-            BlockLength::ThirtyTwo => 32,
-        }
+        self as usize
     }
 
     // How many whole blocks so many bytes have, and at most so many.
     pub fn whole_blocks(self, bytes: usize, most: u32) -> u32
         ensures { result ≡ whole_blocks (bytes_of self) bytes most }
     {
-        let whole = bytes / self.bytes();
-        if whole < most as usize {
-            whole as u32
-        } else {
-            most
-        }
+        (bytes / self.bytes()).min(most as usize) as u32
     }
 }

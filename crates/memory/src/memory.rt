@@ -2,7 +2,7 @@
 ghost use Rattle.std.specs.Prelude.{◌≡◌, ℕ};
 ghost use Rattle.memory.specs.BlockLength.{bytes_of};
 ghost use Rattle.memory.specs.Model.{Model, Sound, count_of};
-ghost use Rattle.memory.specs.Calls.{TellsLock, Reads, Writes, Locks};
+ghost use Rattle.memory.specs.Calls.{spaced, present, unlocked, TellsLock, Reads, Writes, Locks};
 
 use crate::block_length::BlockLength;
 use crate::refusal::MemoryRefusal;
@@ -16,6 +16,38 @@ pub trait Memory {
 
     fn block_count(&self) -> u32
         ensures { result ≡ count_of (model self.now) };
+
+    // The check that a space is a block long.
+    fn check_space(&self, block: u32, space: &[u8]) -> Result<(), MemoryRefusal>
+        ensures { result ≡ spaced (model self.now) block space.now (Ok tt) }
+    {
+        if space.len() == self.block_length().bytes() {
+            Ok(())
+        } else {
+            Err(MemoryRefusal::WrongSpace { block })
+        }
+    }
+
+    // The check that the block is there.
+    fn check_block(&self, block: u32) -> Result<(), MemoryRefusal>
+        ensures { result ≡ present (model self.now) block (Ok tt) }
+    {
+        if block < self.block_count() {
+            Ok(())
+        } else {
+            Err(MemoryRefusal::Absent { block })
+        }
+    }
+
+    // The check that the block is there and not locked.
+    fn check_open(&self, block: u32) -> Result<(), MemoryRefusal>
+        ensures { result ≡ present (model self.now) block (unlocked (model self.now) block (Ok tt)) }
+    {
+        if self.is_locked(block)? {
+            return Err(MemoryRefusal::Locked { block });
+        }
+        Ok(())
+    }
 
     // Whether the block is locked.
     fn is_locked(&self, block: u32) -> Result<bool, MemoryRefusal>

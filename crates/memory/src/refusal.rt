@@ -33,9 +33,9 @@ impl MemoryRefusal {
     {
         match self {
             MemoryRefusal::NotListed => 0,
-            MemoryRefusal::WrongSpace { block } => block,
-            MemoryRefusal::Absent { block } => block,
-            MemoryRefusal::Locked { block } => block,
+            MemoryRefusal::WrongSpace { block }
+            | MemoryRefusal::Absent { block }
+            | MemoryRefusal::Locked { block } => block,
         }
     }
 }

@@ -5,11 +5,9 @@ use Rattle.std.specs.List.{flat_map}
 use Rattle.std.specs.Option.{option_to_list}
 use Rattle.std.proofs.lemmas.Bool.{cond-false, lt-ltb, le-ltb, cases_lt}
 use Rattle.tag.specs.Rules.{turn}
-use Rattle.field.specs.declared.heard.Heard.{Heard}
-use Rattle.field.specs.declared.heard.Heard.TheVariants.{Nothing}
 use Rattle.field.specs.declared.span.Span.{Span}
 use Rattle.field.specs.declared.span.Span.TheVariants.{Endless, Left}
-use Rattle.field.specs.Exchange.{hears, says, heard_from, laid_all, heard_of, Exchange}
+use Rattle.field.specs.Exchange.{hears, says, heard_from}
 use Rattle.field.specs.Placed.{Placed}
 use Rattle.field.specs.Span.{fallen, reaches, answers}
 use Rattle.pile.specs.Capped.{capped, capped_at}
@@ -55,48 +53,31 @@ hears-none f p =
     let e = capped_again p.span in
     λ i. record { tag = cond (r i) (turn p.tag f).after p.tag; span = e i }
 
-all_hear : (f : List ℕ) (s : ℕ) (ps : List Placed) → 0 < s → map (capped_at (s - 2)) (map (hears f) ps) ≡ map (hears f) (map (capped_at s) ps)
-all_hear f s [] h = refl
-all_hear f s (p ∷ ps) h = λ i. sym (hears-capped f s p h) i ∷ all_hear f s ps h i
+none_at_zero : (f : List ℕ) (ps : List Placed) → map (hears f) (map (capped_at 0) ps) ≡ map (capped_at 0) ps
+none_at_zero f [] = refl
+none_at_zero f (p ∷ ps) = λ i. hears-none f p i ∷ none_at_zero f ps i
 
-none_hear : (f : List ℕ) (ps : List Placed) → map (capped_at 0) ps ≡ map (hears f) (map (capped_at 0) ps)
-none_hear f [] = refl
-none_hear f (p ∷ ps) = λ i. sym (hears-none f p) i ∷ none_hear f ps i
+pub all_hear : (f : List ℕ) (s : ℕ) (ps : List Placed) → 0 < s → map (hears f) (map (capped_at s) ps) ≡ map (capped_at (s - 2)) (map (hears f) ps)
+all_hear f s [] h = refl
+all_hear f s (p ∷ ps) h = λ i. hears-capped f s p h i ∷ all_hear f s ps h i
+
+pub none_hear : (f : List ℕ) (s : ℕ) (ps : List Placed) → s ≡ 0 → map (hears f) (map (capped_at s) ps) ≡ map (capped_at s) ps
+none_hear f s ps e = ap (λ n. map (hears f) (map (capped_at n) ps)) e ∙ none_at_zero f ps ∙ ap (λ n. map (capped_at n) ps) (sym e)
 
 -- at a span of 0 or 1 nothing comes back
-nothing_heard : (f : List ℕ) (s : ℕ) (ps : List Placed) → s ≤ 1 → heard_from f (map (capped_at s) ps) ≡ []
+pub nothing_heard : (f : List ℕ) (s : ℕ) (ps : List Placed) → s ≤ 1 → heard_from f (map (capped_at s) ps) ≡ []
 unfolding heard_from says
 nothing_heard f s [] h = refl
 nothing_heard f s (p ∷ ps) h =
     ap (λ l. l ++ flat_map (says f) (map (capped_at s) ps)) (cond-false _ _ _ (answers_lost s p.span h)) ∙ nothing_heard f s ps h
 
-all-heard : (f : List ℕ) (s : ℕ) (ps : List Placed) → 1 < s → heard_from f ps ≡ heard_from f (map (capped_at s) ps)
+pub all_heard : (f : List ℕ) (s : ℕ) (ps : List Placed) → 1 < s → heard_from f (map (capped_at s) ps) ≡ heard_from f ps
 unfolding heard_from says
-all-heard f s [] h = refl
-all-heard f s (p ∷ ps) h =
-    let a = sym (answers-capped s p.span h) in
-    let rest = all-heard f s ps h in
+all_heard f s [] h = refl
+all_heard f s (p ∷ ps) h =
+    let a = answers-capped s p.span h in
+    let rest = all_heard f s ps h in
     λ i. cond (a i) (option_to_list (turn p.tag f).says) [] ++ rest i
 
-pub fade_none : (ts : List Placed) (f space : List ℕ) → Exchange (map (capped_at 0) ts) (map (capped_at 0) ts) f space space Nothing
-fade_none ts f space =
-    let silent = sym (nothing_heard f 0 ts (omega arith)) in
-    record { after = none_hear f ts; heard = ap heard_of silent; left = ap (λ l. laid_all l space) silent }
-
-pub fade_lost : {ts ts' : List Placed} {f s s' : List ℕ} {h : Heard} (space : List ℕ) → Exchange ts ts' f s s' h → Exchange (map (capped_at 1) ts) (map (capped_at 0) ts') f space space Nothing
-fade_lost {ts} {ts'} {f} {s} {s'} {h} space x =
-    let silent = sym (nothing_heard f 1 ts (omega arith)) in
-    record {
-      after = ap (map (capped_at 0)) x.after ∙ all_hear f 1 ts (omega arith);
-      heard = ap heard_of silent;
-      left = ap (λ l. laid_all l space) silent;
-    }
-
-pub fade_on : {ts ts' : List Placed} {f s s' : List ℕ} {h : Heard} (n : ℕ) → 1 < n → Exchange ts ts' f s s' h → Exchange (map (capped_at n) ts) (map (capped_at (n - 2)) ts') f s s' h
-fade_on {ts} {ts'} {f} {s} {s'} {h} n more x =
-    let same = all-heard f n ts more in
-    record {
-      after = ap (map (capped_at (n - 2))) x.after ∙ all_hear f n ts (omega arith);
-      heard = x.heard ∙ ap heard_of same;
-      left = x.left ∙ ap (λ l. laid_all l s) same;
-    }
+-- each part of an exchange of a field that fades, for `grind`
+pub ruleset fades = (all_hear, none_hear, nothing_heard, all_heard)

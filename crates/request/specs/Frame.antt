@@ -1,5 +1,5 @@
 -- A frame: the request flag, a code, the tag's UID where it is addressed, and then what the code asks for.
-use Rattle.std.specs.Prelude.{ℕ, ◌+◌, ◌*◌, Bool, cond, not, ◌&&◌, ◌||◌, List, [], ◌∷◌, length, take, drop, ◌==◌, bit_and, nat_le, slice_index}
+use Rattle.std.specs.Prelude.{ℕ, ◌+◌, ◌*◌, Bool, if◌then◌else◌, not, ◌&&◌, ◌||◌, List, [], ◌∷◌, length, take, drop, ◌==◌, bit_and, nat_le, slice_index}
 
 abbrev pub flag_of : List ℕ → ℕ
 flag_of f = slice_index f 0
@@ -37,7 +37,7 @@ uid_at f = little (take 8 (drop 2 f))
 
 -- what stands behind flag, code and UID
 abbrev pub body_of : List ℕ → List ℕ
-body_of f = drop (cond (addressed f) 10 2) f
+body_of f = drop (if addressed f then 10 else 2) f
 
 -- a frame that a tag may heed: it has a code, its flag is plain, it is not both for one tag and for the selected one, and
 -- it is long enough for its UID

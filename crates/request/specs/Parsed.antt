@@ -1,5 +1,5 @@
 -- The code's frame, as the parts of the bytes that it was read from.
-use Rattle.std.specs.Prelude.{◌≡◌, ℕ, true, cond, List, length}
+use Rattle.std.specs.Prelude.{◌≡◌, ℕ, true, if◌then◌else◌, List, length}
 use Rattle.request.specs.declared.frame.Frame.{Frame}
 use Rattle.request.specs.declared.frame.Reach.{Reach}
 use Rattle.request.specs.declared.frame.Reach.TheVariants.{Every, TheSelected, One}
@@ -7,7 +7,7 @@ use Rattle.request.specs.Frame.{code_at, optioned, addressed, selective, intact,
 
 -- whom a frame is for
 abbrev pub reach_of : List ℕ → Reach
-reach_of f = cond (addressed f) (One (record { 0 = uid_at f })) (cond (selective f) TheSelected Every)
+reach_of f = if addressed f then One (record { 0 = uid_at f }) else if selective f then TheSelected else Every
 
 pub record Parsed (f : List ℕ) (x : Frame) : Type 0 where
   pub intact : intact f ≡ true

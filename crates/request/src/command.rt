@@ -1,6 +1,8 @@
 // The commands that speak of blocks.
-ghost use Rattle.std.specs.Prelude.{◌≡◌};
-ghost use Rattle.request.specs.Command.{command_of};
+ghost use Rattle.request.specs.Command.{Decodes};
+
+use std::error::Error;
+use std::fmt;
 
 // What is to be done.
 #[derive(Clone, Copy, PartialEq, Eq, Debug)]
@@ -11,52 +13,43 @@ pub enum Work {
     ReadMany,
 }
 
-#[derive(Clone, Copy)]
+#[derive(Clone, Copy, PartialEq, Eq, Debug)]
 pub struct Command {
     pub work: Work,
     // with numbers of two bytes
     pub wide: bool,
 }
 
-impl Command {
-    // The command of a code.
-    pub fn from_code(code: u8) -> Option<Command>
-        ensures { result ≡ command_of code }
-    {
-        match code {
-            0x20 => Some(Command {
-                work: Work::Read,
-                wide: false,
-            }),
-            0x21 => Some(Command {
-                work: Work::Write,
-                wide: false,
-            }),
-            0x22 => Some(Command {
-                work: Work::Lock,
-                wide: false,
-            }),
-            0x23 => Some(Command {
-                work: Work::ReadMany,
-                wide: false,
-            }),
-            0x30 => Some(Command {
-                work: Work::Read,
-                wide: true,
-            }),
-            0x31 => Some(Command {
-                work: Work::Write,
-                wide: true,
-            }),
-            0x32 => Some(Command {
-                work: Work::Lock,
-                wide: true,
-            }),
-            0x33 => Some(Command {
-                work: Work::ReadMany,
-                wide: true,
-            }),
-            _ => None,
-        }
+// A code that no command on blocks has.
+#[derive(Clone, Copy, PartialEq, Eq, Debug)]
+pub struct UnknownCode(pub u8);
+
+// The command of a code.
+impl TryFrom<u8> for Command {
+    type Error = UnknownCode;
+
+    ghost try_from_gives = { Decodes };
+
+    fn try_from(code: u8) -> Result<Command, UnknownCode> {
+        let (work, wide) = match code {
+            0x20 => (Work::Read, false),
+            0x21 => (Work::Write, false),
+            0x22 => (Work::Lock, false),
+            0x23 => (Work::ReadMany, false),
+            0x30 => (Work::Read, true),
+            0x31 => (Work::Write, true),
+            0x32 => (Work::Lock, true),
+            0x33 => (Work::ReadMany, true),
+            _ => return Err(UnknownCode(code)),
+        };
+        Ok(Command { work, wide })
     }
 }
+
+impl fmt::Display for UnknownCode {
+    fn fmt<W: fmt::Write>(&self, f: &mut fmt::Formatter<W>) -> fmt::Result {
+        write!(f, "no command on blocks has code {:02X}", self.0)
+    }
+}
+
+impl Error for UnknownCode {}

@@ -1,7 +1,7 @@
 // A frame taken apart: whom it is for, its option flag, its code, and what stands behind.
-ghost use Rattle.std.specs.Prelude.{◌≡◌, ℕ, ◌≤◌, true, false, not, length, MatchOption, ◌==◌, bit_and};
-ghost use Rattle.request.specs.Frame.{intact, uid_at, body_of};
-ghost use Rattle.request.specs.Parsed.{Parsed, reach_of};
+ghost use Rattle.std.specs.Prelude.{◌≡◌, false, MatchOption};
+ghost use Rattle.request.specs.Frame.{intact, little};
+ghost use Rattle.request.specs.Parsed.{Parsed};
 
 use crate::uid::Uid;
 
@@ -31,60 +31,15 @@ pub struct Frame<'a> {
     pub code: u8,
     // behind flag, code and UID
     pub body: &'a [u8],
+    // of the whole frame, flag, code and UID too
     pub length: usize,
 }
 
-// The UID of an addressed frame, least significant byte first.
-fn uid_at(bytes: &[u8]) -> Uid
-    requires { 10 ≤ length bytes.now }
-    ensures { result.0 ≡ uid_at bytes.now }
+// The UID of an addressed frame stands least significant byte first.
+fn uid_of(bytes: &[u8; 8]) -> Uid
+    ensures { result.0 ≡ little bytes.now }
 {
-    Uid(u64::from_le_bytes([
-        bytes[2], bytes[3], bytes[4], bytes[5], bytes[6], bytes[7], bytes[8], bytes[9],
-    ]))
-}
-
-// Whether a bit of the request flag is set.
-fn is_set(flag: u8, bit: u8) -> bool
-    ensures { result ≡ not (bit_and flag bit == 0) }
-{
-    flag & bit != 0
-}
-
-// Whether a tag may heed the frame.
-fn is_intact(bytes: &[u8]) -> bool
-    ensures { result ≡ intact bytes.now }
-{
-    bytes.len() >= 2
-        && bytes[0] & OTHERS == HIGH_RATE
-        && !(is_set(bytes[0], ADDRESS) && is_set(bytes[0], SELECT))
-        && (!is_set(bytes[0], ADDRESS) || bytes.len() >= 10)
-}
-
-// Whom the frame is for.
-fn reach_of(bytes: &[u8]) -> Reach
-    requires { intact bytes.now ≡ true }
-    ensures { result ≡ reach_of bytes.now }
-{
-    if is_set(bytes[0], ADDRESS) {
-        Reach::One(uid_at(bytes))
-    } else if is_set(bytes[0], SELECT) {
-        Reach::TheSelected
-    } else {
-        Reach::Every
-    }
-}
-
-// What stands behind flag, code and UID.
-fn body_of(bytes: &[u8]) -> &[u8]
-    requires { intact bytes.now ≡ true }
-    ensures { result.now ≡ body_of bytes.now }
-{
-    if is_set(bytes[0], ADDRESS) {
-        &bytes[10..]
-    } else {
-        &bytes[2..]
-    }
+    Uid(u64::from_le_bytes(*bytes))
 }
 
 impl<'a> Frame<'a> {
@@ -92,14 +47,28 @@ impl<'a> Frame<'a> {
     pub fn read(bytes: &'a [u8]) -> Option<Frame<'a>>
         ensures { MatchOption result (intact bytes.now ≡ false) (Parsed bytes.now) }
     {
-        if !is_intact(bytes) {
+        let &[flag, code, ref rest @ ..] = bytes else {
+            return None;
+        };
+        let optioned = flag & OPTION != 0;
+        let addressed = flag & ADDRESS != 0;
+        let selective = flag & SELECT != 0;
+        if flag & OTHERS != HIGH_RATE || addressed && selective {
             return None;
         }
+        let (reach, body) = if addressed {
+            let (uid, body) = rest.split_first_chunk::<8>()?;
+            (Reach::One(uid_of(uid)), body)
+        } else if selective {
+            (Reach::TheSelected, rest)
+        } else {
+            (Reach::Every, rest)
+        };
         Some(Frame {
-            reach: reach_of(bytes),
-            optioned: is_set(bytes[0], OPTION),
-            code: bytes[1],
-            body: body_of(bytes),
+            reach,
+            optioned,
+            code,
+            body,
             length: bytes.len(),
         })
     }

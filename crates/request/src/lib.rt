@@ -8,7 +8,7 @@ mod marks;
 mod state;
 mod uid;
 
-pub use command::{Command, Work};
+pub use command::{Command, UnknownCode, Work};
 pub use error_code::ErrorCode;
 pub use frame::{Frame, Reach};
 pub use marks::Marks;

@@ -1,3 +1,12 @@
+use std::fmt;
+
 // The number that tells one tag from every other.
 #[derive(Clone, Copy, PartialEq, Eq, Debug)]
 pub struct Uid(pub u64);
+
+// 16 hex digits.
+impl fmt::Display for Uid {
+    fn fmt<W: fmt::Write>(&self, f: &mut fmt::Formatter<W>) -> fmt::Result {
+        write!(f, "{:016X}", self.0)
+    }
+}

@@ -1,3 +1,4 @@
+pub mod Jobs
 pub mod Means
 pub mod Orders
 pub mod Refusal

@@ -1,6 +1,8 @@
 -- The code's tag, as what it means; and what each of its calls does.
-use Rattle.std.specs.Prelude.{◌≡◌, ℕ, ◌+◌, ◌<◌, ◌≤◌, Bool, List, ◌∷◌, length, Some, None, Ok, Err, Option, Result}
+use Rattle.std.specs.Prelude.{◌≡◌, ℕ, ◌+◌, ◌<◌, ◌≤◌, Bool, if◌then◌else◌, nat_lt, List, ◌∷◌, length, Some, None, Ok, Err, Option, Result}
 use Rattle.std.specs.Option.{option_map}
+use Rattle.memory.specs.declared.refusal.MemoryRefusal.{MemoryRefusal}
+use Rattle.memory.specs.declared.refusal.MemoryRefusal.TheVariants.{Locked}
 use Rattle.memory.specs.Model.{Model, count_of}
 use Rattle.space.specs.Space.{laid}
 use Rattle.request.specs.declared.error_code.ErrorCode.{ErrorCode}
@@ -29,10 +31,19 @@ pub record Takes (t t' : TagModel) (turn : Turn) (space space' : List ℕ) (r : 
 abbrev pub longest : ℕ
 longest = 1057
 
+-- the refusal of a space that some answer does not fit in
+abbrev pub room_in : List ℕ → Result (Unit {0}) TagRefusal
+room_in space = if nat_lt (length space) longest then Err AnswerSpaceShort else Ok tt
+
 -- a step: refused before anything is heard where the space is short, and else what the rules make of the frame
 abbrev pub Steps : TagModel → TagModel → List ℕ → List ℕ → List ℕ → Result (Option ℕ) TagRefusal → Type 0
 Steps t t' f space space' (Err e) = (length space < longest) × (e ≡ AnswerSpaceShort) × (t' ≡ t) × (space' ≡ space)
 Steps t t' f space space' (Ok r) = (longest ≤ length space) × Takes t t' (turn t f) space space' r
+
+-- the error that tells a memory's refusal of a change; it refuses a block that is locked under its own error
+abbrev pub error_for : MemoryRefusal → ErrorCode → ErrorCode
+error_for (Locked n) own = own
+error_for _ own = Absent
 
 -- a command on blocks that is carried out or not: what it answers behind 00h lies in the space, or nothing has changed
 pub record Does (t t' : TagModel) (done : Result (TagModel × List ℕ) ErrorCode) (space space' : List ℕ) (n : ℕ) : Type 0 where

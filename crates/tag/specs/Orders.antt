@@ -1,5 +1,5 @@
 -- What a frame asks of a tag with a UID, by the first rules, and what the tag makes of it.
-use Rattle.std.specs.Prelude.{◌≡◌, ℕ, Bool, true, false, cond, List, [], None, Ok}
+use Rattle.std.specs.Prelude.{◌≡◌, ℕ, Bool, true, false, if◌then◌else◌, List, [], None, Ok}
 use Rattle.request.specs.declared.frame.Frame.{Frame}
 use Rattle.tag.specs.declared.order.BlockOrder.{BlockOrder}
 use Rattle.tag.specs.declared.order.Order.{Order}
@@ -18,8 +18,8 @@ does t Nothing = silence t
 does t SelectAnother = silence (with_state t (released t.state))
 does t Select = replies t (Ok (with_state t Selected, []))
 does t StayQuiet = record { after = with_state t Quiet; says = None; carried = true }
-does t (ToEvery o) = cond (deaf t.state false) (silence t) (does_blocks t o)
-does t (ToSelected o) = cond (deaf t.state true) (silence t) (does_blocks t o)
+does t (ToEvery o) = if deaf t.state false then silence t else does_blocks t o
+does t (ToSelected o) = if deaf t.state true then silence t else does_blocks t o
 does t (ToThis o) = does_blocks t o
 
 -- the order of a frame's code

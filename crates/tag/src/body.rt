@@ -1,59 +1,54 @@
 // The body of a command on blocks: what stands behind flag, code and UID.
-ghost use Rattle.std.specs.Prelude.{◌≡◌, ◌+◌, ◌<◌, ◌≤◌, length, drop};
-ghost use Rattle.tag.specs.Rules.{number_length, body_length, block_number, count_number};
+ghost use Rattle.std.specs.Prelude.{◌≡◌, ◌≤◌, ◌<◌, length, take, drop, MatchOption};
+ghost use Rattle.request.specs.Frame.{little};
+ghost use Rattle.tag.specs.Jobs.{Asks};
+ghost use Rattle.tag.specs.Rules.{number_length, body_length};
 
 use request::{Command, Work};
 
-// How long a block number is.
-fn number_length(command: Command) -> usize
-    ensures { result ≡ number_length command }
-{
-    if command.wide { 2 } else { 1 }
+// What a command asks of the blocks.
+#[derive(Clone, Copy)]
+pub(crate) enum Job<'a> {
+    ReadBlocks { first: u16, count: u32 },
+    WriteBlock { block: u16, bytes: &'a [u8] },
+    LockBlock { block: u16 },
 }
 
-// How long the body is, where a block has `unit` bytes.
-pub(crate) fn body_length(command: Command, unit: usize) -> usize
-    requires { unit ≤ 32 }
-    ensures { result ≡ body_length command unit }
-{
-    let number = number_length(command);
-    match command.work {
-        Work::Read | Work::Lock => number,
-        Work::Write => number + unit,
-        Work::ReadMany => number + number,
-    }
-}
-
-// The block number, least significant byte first.
-pub(crate) fn block_number(command: Command, body: &[u8]) -> u32
-    requires { number_length command ≤ length body.now }
-    ensures value { result ≡ block_number command body.now }
-    ensures bound { result < 65536 }
+// The number at the front of the bytes, least significant byte first, and what stands behind it.
+fn split_number(command: Command, bytes: &[u8]) -> Option<(u16, &[u8])>
+    ensures { MatchOption result (length bytes.now < number_length command) (λ p. (number_length command ≤ length bytes.now) × (p.0 ≡ little (take (number_length command) bytes.now)) × (p.1.now ≡ drop (number_length command) bytes.now)) }
 {
     if command.wide {
-        u16::from_le_bytes([body[0], body[1]]) as u32
+        let (number, rest) = bytes.split_first_chunk::<2>()?;
+        Some((u16::from_le_bytes(*number), rest))
     } else {
-        body[0] as u32
+        let (&number, rest) = bytes.split_first()?;
+        Some((number as u16, rest))
     }
 }
 
-// NB: one less than how many blocks are asked for.
-pub(crate) fn count_number(command: Command, body: &[u8]) -> u32
-    requires { length body.now ≡ number_length command + number_length command }
-    ensures value { result ≡ count_number command body.now }
-    ensures bound { result < 65536 }
-{
-    if command.wide {
-        u16::from_le_bytes([body[2], body[3]]) as u32
-    } else {
-        body[1] as u32
+impl<'a> Job<'a> {
+    // What the command and its body ask, where the body is as long as that takes and a block has `unit` bytes.
+    pub(crate) fn read(command: Command, body: &'a [u8], unit: usize) -> Option<Job<'a>>
+        ensures { MatchOption result (length body.now ≡ body_length command unit → ⊥) (Asks command body.now unit) }
+    {
+        let (block, rest) = split_number(command, body)?;
+        match command.work {
+            Work::Read if rest.is_empty() => Some(Job::ReadBlocks {
+                first: block,
+                count: 1,
+            }),
+            Work::Write if rest.len() == unit => Some(Job::WriteBlock { block, bytes: rest }),
+            Work::Lock if rest.is_empty() => Some(Job::LockBlock { block }),
+            Work::ReadMany => match split_number(command, rest)? {
+                // one less than how many blocks are asked for
+                (more, []) => Some(Job::ReadBlocks {
+                    first: block,
+                    count: more as u32 + 1,
+                }),
+                _ => None,
+            },
+            Work::Read | Work::Write | Work::Lock => None,
+        }
     }
-}
-
-// What stands behind the block number.
-pub(crate) fn data_of(command: Command, body: &[u8]) -> &[u8]
-    requires { number_length command ≤ length body.now }
-    ensures { result.now ≡ drop (number_length command) body.now }
-{
-    &body[number_length(command)..]
 }

@@ -12,5 +12,5 @@ mod tag;
 pub use access::View;
 pub use refusal::TagRefusal;
 pub use request::{ErrorCode, Marks, State, Uid};
-pub use step::LONGEST_ANSWER;
+pub use step::{LONGEST_ANSWER, check_space};
 pub use tag::Tag;

@@ -38,7 +38,7 @@ fn block_order<'a>(frame: &Frame<'a>) -> BlockOrder<'a>
     ensures { IsOrderOf frame.now result }
 {
     BlockOrder {
-        command: Command::from_code(frame.code),
+        command: Command::try_from(frame.code).ok(),
         optioned: frame.optioned,
         body: frame.body,
     }
@@ -87,7 +87,7 @@ impl<'a> Order<'a> {
             return Order::Nothing;
         };
         match frame.reach {
-            Reach::One(to) if to.0 == uid.0 => for_this(&frame),
+            Reach::One(to) if to == uid => for_this(&frame),
             Reach::One(_) => for_another(&frame),
             Reach::TheSelected => for_many(&frame, true),
             Reach::Every => for_many(&frame, false),

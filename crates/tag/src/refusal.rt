@@ -4,8 +4,8 @@ ghost use Rattle.tag.specs.Refusal.{number_of};
 
 #[derive(Clone, Copy, PartialEq, Eq, Debug)]
 pub enum TagRefusal {
-    // 1: the answer space is shorter than the longest answer.
-    AnswerSpaceShort,
+    // the answer space is shorter than the longest answer.
+    AnswerSpaceShort = 1,
 }
 
 impl TagRefusal {
@@ -13,8 +13,6 @@ impl TagRefusal {
     pub fn number(self) -> u8
         ensures { result ≡ number_of self }
     {
-        match self {
-            TagRefusal::AnswerSpaceShort => 1,
-        }
+        self as u8
     }
 }

@@ -16,7 +16,7 @@ mod tests {
 
     // The tag of three blocks of four bytes.
     fn twelve_bytes(heap: Global, uid: u64, wide: bool) -> Result<Tag<Bench>, Fail> {
-        let unit = BlockLength::new(4)?;
+        let unit = BlockLength::try_from(4)?;
         let memory = Bench::new(unit, BYTES.to_vec(heap)?, [0u8; 3].to_vec(heap)?);
         let marks = Marks {
             wide,
@@ -147,6 +147,18 @@ mod tests {
         );
         assert!(rt; tag.view().state == State::Ready);
         assert!(rt; space == [0xEEu8; 1056]);
+        Ok(())
+    }
+
+    #[test]
+    fn uids_and_states_print(rt: HostRuntime) -> Result<(), Fail> {
+        let heap = rt.alloc();
+        let uid = format!(in heap; "{}", Uid(0xE0_0401_00AB_CDEF))?;
+        assert!(rt; uid.as_str() == "00E0040100ABCDEF");
+        let states = [State::Ready, State::Selected, State::Quiet];
+        let [ready, selected, quiet] = states;
+        let text = format!(in heap; "{ready} {selected} {quiet}")?;
+        assert!(rt; text.as_str() == "READY SELECTED QUIET");
         Ok(())
     }
 }

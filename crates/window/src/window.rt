@@ -1,7 +1,7 @@
 // The window: a run of the blocks of the memory below.
-ghost use Rattle.std.specs.Prelude.{◌≡◌, ◌+◌};
-ghost use Rattle.memory.specs.Model.{count_of, with_block, with_lock};
-ghost use Rattle.memory.specs.Calls.{TellsLock, Reads, Writes, Locks, after};
+ghost use Rattle.std.specs.Prelude.{◌≡◌, ◌+◌, ◌<◌};
+ghost use Rattle.memory.specs.Model.{Sound, count_of, with_block, with_lock};
+ghost use Rattle.memory.specs.Calls.{Writes, Locks, after};
 ghost use Rattle.window.specs.Window.{window_of};
 ghost use Rattle.window.specs.Sound.{window_sound};
 
@@ -38,94 +38,26 @@ impl<M: Memory> Window<M> {
         } = self;
         below
     }
-}
 
-// How many blocks are shown.
-fn blocks_shown<M: Memory>(below: &M, first: u32, count: u32) -> u32
-    ensures { result ≡ count_of (window_of (M.model below.now) first count) }
-{
-    count.min(below.block_count().saturating_sub(first))
-}
+    // The block below that shows as this one; the memory below is sound, as each is.
+    fn block_below(&self, block: u32) -> u32
+        requires { block < count_of (window_of (M.model self.now.below) self.now.first self.now.count) }
+        ensures below { result ≡ self.now.first + block }
+        ensures sound { Sound (M.model self.now.below) }
+    {
+        self.first + block
+    }
 
-// Whether the block below is locked.
-fn tell_shown<M: Memory>(
-    below: &M,
-    first: u32,
-    count: u32,
-    block: u32,
-) -> Result<bool, MemoryRefusal>
-    ensures { TellsLock (window_of (M.model below.now) first count) block result }
-{
-    if block >= blocks_shown(below, first, count) {
-        return Err(MemoryRefusal::Absent { block });
-    }
-    match below.is_locked(first + block) {
-        Ok(locked) => Ok(locked),
-        Err(_) => Err(MemoryRefusal::Absent { block }),
-    }
-}
-
-// Reads the block below; a refusal carries the block as it was asked of the window.
-fn read_shown<M: Memory>(
-    below: &M,
-    first: u32,
-    count: u32,
-    block: u32,
-    space: &mut [u8],
-) -> Result<(), MemoryRefusal>
-    ensures { Reads (window_of (M.model below.now) first count) block space.old space.new result }
-{
-    if space.len() != below.block_length().bytes() {
-        return Err(MemoryRefusal::WrongSpace { block });
-    }
-    if block >= blocks_shown(below, first, count) {
-        return Err(MemoryRefusal::Absent { block });
-    }
-    match below.read(first + block, space) {
-        Ok(()) => Ok(()),
-        Err(_) => Err(MemoryRefusal::Absent { block }),
-    }
-}
-
-// Writes that one block below, and refuses likewise.
-fn write_shown<M: Memory>(
-    below: &mut M,
-    first: u32,
-    count: u32,
-    block: u32,
-    bytes: &[u8],
-) -> Result<(), MemoryRefusal>
-    ensures writes { Writes (window_of (M.model below.old) first count) (window_of (M.model below.new) first count) block bytes.now result }
-    ensures under { M.model below.new ≡ after result (with_block (M.model below.old) (first + block) bytes.now) (M.model below.old) }
-{
-    if bytes.len() != below.block_length().bytes() {
-        return Err(MemoryRefusal::WrongSpace { block });
-    }
-    if block >= blocks_shown(below, first, count) {
-        return Err(MemoryRefusal::Absent { block });
-    }
-    match below.write(first + block, bytes) {
-        Ok(()) => Ok(()),
-        Err(_) => Err(MemoryRefusal::Locked { block }),
-    }
-}
-
-// Locks that one block below, and refuses likewise.
-fn lock_shown<M: Memory>(
-    below: &mut M,
-    first: u32,
-    count: u32,
-    block: u32,
-) -> Result<(), MemoryRefusal>
-    ensures locks { Locks (window_of (M.model below.old) first count) (window_of (M.model below.new) first count) block result }
-    ensures under { M.model below.new ≡ after result (with_lock (M.model below.old) (first + block)) (M.model below.old) }
-{
-    if block >= blocks_shown(below, first, count) {
-        return Err(MemoryRefusal::Absent { block });
-    }
-    match below.lock(first + block) {
-        Ok(()) => Ok(()),
-        Err(_) => Err(MemoryRefusal::Locked { block }),
+    // Right in the impl this closes only by an answer: its lemma leaves grind more cases than it splits.
+    fn write_shown(&mut self, block: u32, bytes: &[u8]) -> Result<(), MemoryRefusal>
+        ensures writes { Writes (window_of (M.model self.old.below) self.old.first self.old.count) (window_of (M.model self.new.below) self.new.first self.new.count) block bytes.now result }
+        ensures under { M.model self.new.below ≡ after result (with_block (M.model self.old.below) (self.old.first + block) bytes.now) (M.model self.old.below) }
+        ensures place { (self.new.first ≡ self.old.first) × (self.new.count ≡ self.old.count) }
+    {
+        self.check_space(block, bytes)?;
+        self.check_open(block)?;
+        let below = self.block_below(block);
+        self.below.write(below, bytes)
     }
 }
 
@@ -138,16 +70,26 @@ impl<M: Memory> Memory for Window<M> {
         self.below.block_length()
     }
 
+    // How many blocks are shown.
     fn block_count(&self) -> u32 {
-        blocks_shown(&self.below, self.first, self.count)
+        let rest = self.below.block_count().saturating_sub(self.first);
+        self.count.min(rest)
     }
 
+    // The window checks first what the memory below does, so that one does not refuse, and each refusal carries the
+    // block as it was asked of the window.
     fn is_locked(&self, block: u32) -> Result<bool, MemoryRefusal> {
-        tell_shown(&self.below, self.first, self.count, block)
+        self.check_block(block)?;
+        let below = self.block_below(block);
+        self.below.is_locked(below)
     }
 
+    #[tactic(auto, using(crate::proofs::Windows::window_block, std::proofs::lemmas::Grind::common_steps))]
     fn read(&self, block: u32, space: &mut [u8]) -> Result<(), MemoryRefusal> {
-        read_shown(&self.below, self.first, self.count, block, space)
+        self.check_space(block, space)?;
+        self.check_block(block)?;
+        let below = self.block_below(block);
+        self.below.read(below, space)
     }
 
     fn write(&mut self, block: u32, bytes: &[u8]) -> Result<(), MemoryRefusal>
@@ -155,14 +97,17 @@ impl<M: Memory> Memory for Window<M> {
         ensures under { M.Memory.model self.new.below ≡ after result (with_block (M.Memory.model self.old.below) (self.old.first + block) bytes.now) (M.Memory.model self.old.below) }
         ensures place { (self.new.first ≡ self.old.first) × (self.new.count ≡ self.old.count) }
     {
-        write_shown(&mut self.below, self.first, self.count, block, bytes)
+        self.write_shown(block, bytes)
     }
 
+    #[tactic(auto, using(crate::proofs::Windows::window_set, std::proofs::lemmas::Grind::common_steps))]
     fn lock(&mut self, block: u32) -> Result<(), MemoryRefusal>
         ensures locks { Locks (window_of (M.Memory.model self.old.below) self.old.first self.old.count) (window_of (M.Memory.model self.new.below) self.new.first self.new.count) block result }
         ensures under { M.Memory.model self.new.below ≡ after result (with_lock (M.Memory.model self.old.below) (self.old.first + block)) (M.Memory.model self.old.below) }
         ensures place { (self.new.first ≡ self.old.first) × (self.new.count ≡ self.old.count) }
     {
-        lock_shown(&mut self.below, self.first, self.count, block)
+        self.check_open(block)?;
+        let below = self.block_below(block);
+        self.below.lock(below)
     }
 }
