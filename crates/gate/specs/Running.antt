@@ -10,27 +10,22 @@ use Rattle.gate.specs.Adding.{Adding}
 use Rattle.gate.specs.Detecting.{Detecting}
 use Rattle.gate.specs.Hearings.{Hearing}
 use Rattle.gate.specs.Receiving.{Receiving}
-use Rattle.gate.specs.Rehearsals.{SameSessions}
-use Rattle.gate.specs.Tagged.{SameTags, spanned}
-
--- every tag, span and session is as it was
-abbrev pub Still : Rehearsal → Rehearsal → Type 0
-Still old new = SameTags old.tags new.tags × SameSessions old new
+use Rattle.gate.specs.Rehearsals.{SameSessions, Still}
+use Rattle.gate.specs.Tagged.{spanned}
 
 abbrev pub Runs : Command → Rehearsal → Rehearsal → Answer → Type 0
 Runs (command.House walk text) old new a = Still old new
-Runs (command.Record format kind id payload) old new a = Still old new
+Runs (command.Record fields) old new a = Still old new
 Runs (command.Compose room) old new a = Still old new
 Runs (command.Message message) old new a = Still old new
 Runs (command.Recompose room) old new a = Still old new
 Runs command.Records old new a = Still old new
 Runs command.Show old new a = Still old new
-Runs (command.Tag uid unit count marks span) old new a =
-    SameSessions old new × Adding uid count marks span (listed unit) old.tags new.tags a
+Runs (command.Tag unit tag) old new a = SameSessions old new × Adding tag (listed unit) old.tags new.tags a
 Runs (command.Bytes uid address bytes) old new a = SameSessions old new
 Runs (command.Lock uid block) old new a = SameSessions old new
 Runs (command.Span uid span) old new a =
-    SameSessions old new × (a ≡ SpanSet (record { 0 = uid }) (record { 0 = span })) × (new.tags.rack.slots.items ≡ spanned uid.0 span old.tags.rack.slots.items)
+    SameSessions old new × (a ≡ SpanSet uid span) × (new.tags.rack.slots.items ≡ spanned uid.0 span old.tags.rack.slots.items)
 Runs (command.Frame frame) old new a = SameSessions old new × Hearing old.tags new.tags frame.items a
 Runs (command.Dump uid) old new a = Still old new
 Runs (command.Detect uid) old new a = Detecting uid.0 old new a

@@ -2,6 +2,7 @@
 use crate::line_error::LineError;
 use crate::rehearsal::Rehearsal;
 use anyhow::anyhow;
+use std::alloc::AllocError;
 use std::io;
 use std::io::{BufRead, BufReader, ErrorKind};
 
@@ -61,7 +62,7 @@ fn is_passed_over(line: &[u8]) -> bool {
 // A line that cannot be read ends the script, since its rest could not be told from a line.
 fn unread(rt: &HostRuntime, number: u64, error: io::Error) -> anyhow::Error {
     if error.kind() == ErrorKind::OutOfMemory {
-        let why = LineError::NoMemory;
+        let why = LineError::from(AllocError);
         let _ = println!(rt; "line {number}: {why}");
     }
     error.into()

@@ -21,7 +21,7 @@ fn unit_of(heard: Heard) -> BlockLength
     let Heard::One(length) = heard else {
         return BlockLength::Four;
     };
-    BlockLength::new(length.saturating_sub(1)).unwrap_or(BlockLength::Four)
+    BlockLength::try_from(length.saturating_sub(1)).unwrap_or(BlockLength::Four)
 }
 
 impl<F: Field> Call<'_, F> {

@@ -5,4 +5,4 @@ pub returns : goal.returns
 returns c =
     let copied = c.copy_from_slice.ensures.items ∙ c.as_slice.ensures.value in
     let front = c.truncate.ensures.items ∙ ap (take c.args.received.length) copied in
-    record { received = (c.truncate.new.self, front, c.adopt.ensures.message, refl); tags = c.adopt.ensures.tags; sessions = c.adopt.ensures.sessions; draft = c.adopt.ensures.draft }
+    record { received = (c.truncate.new.self, front, c.adopt.ensures.message, refl); still = c.adopt.ensures.still; draft = c.adopt.ensures.draft }
