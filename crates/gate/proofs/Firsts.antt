@@ -1,5 +1,5 @@
 -- The first tag with a UID, and its span. Assumes nothing.
-use Rattle.std.proofs.Common.{◌≡◌, ℕ, ◌+◌, ◌<◌, ◌≤◌, Option, Bool, true, false, cond, not, List, [], ◌∷◌, length, get_or, drop, set, sym, refl, ap, ◌∙◌, one-add, arith}
+use Rattle.std.proofs.Common.{◌≡◌, ℕ, ◌+◌, ◌<◌, Option, Bool, true, false, cond, not, List, [], ◌∷◌, length, get_or, set, refl, ap, ◌∙◌, one-add, arith}
 use Rattle.std.specs.List.{position, prefix_len}
 use Rattle.std.specs.Option.{ok_or}
 use Rattle.std.specs.Result.{MatchResult}

@@ -45,6 +45,8 @@ pub struct Rehearsal {
 // What a text record's payload begins with: UTF-8, and a language of two letters.
 const ENGLISH: [u8; 3] = [0x02, b'e', b'n'];
 
+// What an error leaves is one named fact, `Unchanged`, in each contract: which part a method changes differs, so no split
+// of the struct says it.
 impl Rehearsal {
     pub fn new(heap: Global) -> Rehearsal {
         Rehearsal {

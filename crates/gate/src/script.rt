@@ -11,9 +11,8 @@ pub fn play(rt: &HostRuntime) -> anyhow::Result<()> {
     let heap = rt.alloc();
     let mut rehearsal = Rehearsal::new(heap);
     let mut is_understood = true;
-    let mut number: u64 = 0;
-    for line in BufReader::new(heap, rt.stdin())?.split(heap, b'\n') {
-        number = number.saturating_add(1);
+    let lines = BufReader::new(heap, rt.stdin())?.split(heap, b'\n');
+    for (number, line) in (1u64..).zip(lines) {
         match line {
             Ok(line) => is_understood &= follow(rt, &mut rehearsal, number, line.as_slice())?,
             Err(error) => return Err(unread(rt, number, error)),
