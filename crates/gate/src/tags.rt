@@ -1,6 +1,10 @@
 // The tags of a rehearsal, in the order in which they were put there.
-ghost use Rattle.std.specs.Prelude.{◌≡◌, ◌+◌, ◌<◌, vec_len, MatchResult, OnErr};
+ghost use Rattle.std.specs.Prelude.{◌≡◌, ◌+◌, ◌<◌, vec_len, MatchResult, OnErr, slice_index_or};
 ghost use Rattle.field.specs.Exchange.{Exchanged};
+ghost use Rattle.bench.specs.declared.bench.Bench.{Bench};
+ghost use Rattle.gate.specs.Preparing.{Prepared, bytes_put, remade};
+ghost use Rattle.memory.specs.Model.{with_lock};
+ghost use Rattle.rack.specs.declared.rack.Slot.{Slot};
 ghost use Rattle.gate.specs.Sessions.{ReadsWith, air_over};
 ghost use Rattle.t5t.specs.Detects.{Detects};
 ghost use Rattle.gate.specs.Tagged.{SameTags, WithNew, placed, blank_placed, first_with, spanned};
@@ -61,7 +65,8 @@ impl Tags {
     // Gives the tag at a place what is made of its memory.
     fn prepare<F: FnOnce(Bench) -> Bench>(&mut self, index: usize, make: F)
         requires place { index < vec_len self.old.rack.slots }
-        requires callable { F.IsAlwaysCallable make }
+        requires callable { (slot : Slot Bench) → slot ≡ slice_index_or self.old.rack.slots.items index slot → F.pre make slot.tag.memory }
+        ensures { Prepared index self.old.rack.slots.items self.new.rack.slots.items (F.post make) }
     {
         let tag = &mut self.rack.slots[index].tag;
         let unit = tag.view().memory.block_length();
@@ -71,7 +76,7 @@ impl Tags {
 
     // Puts bytes into the memory of the first tag with that UID, locked or not.
     pub fn put_bytes(&mut self, uid: Uid, address: usize, bytes: &[u8]) -> Result<(), LineError>
-        ensures { OnErr result (SameTags self.old self.new) }
+        ensures { MatchResult result (λ _. placed self.new ≡ remade uid.0 (bytes_put address bytes.now) (placed self.old)) (λ _. SameTags self.old self.new) }
     {
         let index = self.first(uid)?;
         let memory = self.rack.slots[index].tag.view().memory;
@@ -85,7 +90,7 @@ impl Tags {
 
     // Locks a block of the first tag with that UID.
     pub fn lock(&mut self, uid: Uid, block: usize) -> Result<(), LineError>
-        ensures { OnErr result (SameTags self.old self.new) }
+        ensures { MatchResult result (λ _. placed self.new ≡ remade uid.0 (λ m. with_lock m block) (placed self.old)) (λ _. SameTags self.old self.new) }
     {
         let index = self.first(uid)?;
         let memory = self.rack.slots[index].tag.view().memory;
