@@ -8,7 +8,7 @@ use composer::{Description, Extent};
 use ndef::RecordRefusal;
 use std::alloc::{AllocError, Global};
 
-// The composer takes one store of bytes and the extents of its records' parts, and so does a caller in C.
+// The composer's interface takes one store of bytes, and extents into it, so the draft keeps that.
 #[derive(Drop)]
 pub struct Draft {
     store: Vec<u8>,

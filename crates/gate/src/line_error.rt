@@ -1,4 +1,7 @@
 // Why a line of the script is not understood, or what it asks for that is not there.
+ghost use Rattle.std.specs.Prelude.{◌≡◌};
+ghost use Rattle.gate.specs.declared.line_error.LineError.TheVariants.{NoBlock};
+
 use memory::MemoryRefusal;
 use std::alloc::AllocError;
 use thiserror::Error;
@@ -45,6 +48,8 @@ pub enum LineError {
 
 // A memory that is looked at refuses only a block that it does not have.
 impl From<MemoryRefusal> for LineError {
+    ghost from_gives = { λ _ error. error ≡ NoBlock };
+
     fn from(_e: MemoryRefusal) -> LineError {
         LineError::NoBlock
     }
