@@ -4,7 +4,7 @@ ghost use Rattle.tag.specs.Refusal.{number_of};
 
 #[derive(Clone, Copy, PartialEq, Eq, Debug)]
 pub enum TagRefusal {
-    // the answer space is shorter than the longest answer.
+    // The answer space is shorter than the longest answer.
     AnswerSpaceShort = 1,
 }
 
