@@ -1,8 +1,10 @@
 -- The first tag with a UID, and its span. Assumes nothing.
-use Rattle.std.proofs.Common.{◌≡◌, ℕ, ◌+◌, ◌<◌, ◌≤◌, Bool, true, false, cond, not, List, [], ◌∷◌, length, get_or, drop, set, sym, refl, ap, ◌∙◌, one-add, arith}
-use Rattle.std.specs.List.{prefix_len}
-use Rattle.std.proofs.lemmas.List.Sums.{prefix_len-drop_yes, prefix_len-drop_no, prefix_len-drop_all}
-use Rattle.std.proofs.lemmas.Bool.{eq-eqb, ne_eqb, not_from_true, not_from_false}
+use Rattle.std.proofs.Common.{◌≡◌, ℕ, ◌+◌, ◌<◌, Option, Bool, true, false, cond, not, List, [], ◌∷◌, length, get_or, set, refl, ap, ◌∙◌, one-add, arith}
+use Rattle.std.specs.List.{position, prefix_len}
+use Rattle.std.specs.Option.{ok_or}
+use Rattle.std.specs.Result.{MatchResult}
+use Rattle.gate.specs.declared.line_error.LineError.{LineError}
+use Rattle.std.proofs.lemmas.List.Sums.{prefix_len-le-length}
 use Rattle.bench.specs.declared.bench.Bench.{Bench}
 use Rattle.rack.specs.declared.rack.Slot.{Slot}
 use Rattle.field.specs.declared.span.Span.{Span}
@@ -13,19 +15,11 @@ module _ (uid : ℕ) where
   abbrev pub other : Slot Bench → Bool
   other slot = not (has_uid uid slot)
 
-  module _ (xs : List (Slot Bench)) (n i : ℕ) (x : Slot Bench) (was : n ≡ i + prefix_len other (drop i xs)) (lt : i < length xs) (is : x ≡ get_or xs i x) where
-    pub first_more : (x.tag.uid.0 ≡ uid → ⊥) → n ≡ i + 1 + prefix_len other (drop (i + 1) xs)
-    first_more ne =
-        let passes : other (get_or xs i x) ≡ true = ap other (sym is) ∙ not_from_false _ (ne_eqb _ _ ne) in
-        omega (arith, prefix_len-drop_yes other xs i x lt passes)
-
-    pub first_here : x.tag.uid.0 ≡ uid → i ≡ n
-    first_here eq =
-        let stops : other (get_or xs i x) ≡ false = ap other (sym is) ∙ not_from_true _ (eq-eqb _ _ eq) in
-        omega (arith, prefix_len-drop_no other xs i x lt stops)
-
-  pub first-none : (xs : List (Slot Bench)) (n i : ℕ) → n ≡ i + prefix_len other (drop i xs) → length xs ≤ i → n ≡ i
-  first-none xs n i was over = omega (arith, prefix_len-drop_all other xs i over)
+  -- where it stands, or that there is none
+  pub first_at : (xs : List (Slot Bench)) (n : ℕ) (r : Option ℕ) (e : LineError) → n ≡ length xs → r ≡ position (has_uid uid) xs → MatchResult (ok_or r e) (λ i. (i ≡ prefix_len other xs) × (i < n)) (λ _. prefix_len other xs ≡ n)
+  first_at xs n r e long is =
+      let within = prefix_len-le-length other xs in
+      rw is (grind arith)
 
   -- the span set at a place
   abbrev pub span_at : Span → List (Slot Bench) → Slot Bench → ℕ → List (Slot Bench)

@@ -1,13 +1,13 @@
 -- What digits stand for.
-use Rattle.std.specs.Prelude.{ℕ, ◌+◌, ◌-◌, ◌*◌, ◌/◌, ◌%◌, cond, List, [], ◌∷◌, fold, nat_lt}
+use Rattle.std.specs.Prelude.{if◌then◌else◌, ℕ, ◌+◌, ◌-◌, ◌*◌, ◌/◌, ◌%◌, List, [], ◌∷◌, fold, nat_lt}
 
 -- the hex digit of a value below 16, as a capital
 abbrev pub capital : ℕ → ℕ
-capital v = cond (nat_lt v 10) (48 + v) (55 + v)
+capital v = if nat_lt v 10 then 48 + v else 55 + v
 
 -- the same, as a small letter
 abbrev pub small : ℕ → ℕ
-small v = cond (nat_lt v 10) (48 + v) (87 + v)
+small v = if nat_lt v 10 then 48 + v else 87 + v
 
 -- the number that decimal digits spell
 abbrev pub spelled : List ℕ → ℕ

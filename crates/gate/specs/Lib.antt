@@ -3,6 +3,7 @@ pub mod Detecting
 pub mod Digits
 pub mod Drafts
 pub mod Hearings
+pub mod Preparing
 pub mod Receiving
 pub mod Rehearsals
 pub mod Running

@@ -21,8 +21,8 @@ fresh_air tags = air_over tags (replicate longest 0)
 
 -- a reading with the numbers of a session
 abbrev pub ReadsWith : Session → Air → Air → List ℕ → List ℕ → Result Received NotRead → Type 0
-ReadsWith (session.Detected d) a b space space' r = Reads d.uid.0 (bytes_of d.unit) d.container.end d.at a b space space' r
-ReadsWith (session.Closed c) a b space space' r = Reads c.uid.0 (bytes_of c.unit) c.container.end c.at a b space space' r
+ReadsWith (session.Detected d) a b space space' r = Reads d.uid.0 (bytes_of d.unit) d.place.container.end d.place.at a b space space' r
+ReadsWith (session.Closed c) a b space space' r = Reads c.uid.0 (bytes_of c.unit) c.place.container.end c.place.at a b space space' r
 
 -- with the session of that number
 pub record ReadAt (sessions : List Session) (k : ℕ) (a b : Air) (space space' : List ℕ) (r : Result Received NotRead) : Type 0 where

@@ -5,12 +5,11 @@ use crate::hex::Hex;
 use crate::kept_session::KeptSession;
 use crate::listing::Listing;
 use crate::refused::Refusal;
-use crate::span::SpanText;
-use crate::uid::UidHex;
 use crate::walk::Walk;
-use field::Heard;
+use field::{Heard, Span};
 use ndef::Format;
 use std::fmt;
+use tag::Uid;
 
 #[derive(Drop)]
 pub enum Answer {
@@ -21,16 +20,17 @@ pub enum Answer {
     Recomposed { length: usize },
     Records { listing: Listing },
     Message { hex: String },
-    TagAdded { uid: UidHex },
-    BytesPut { uid: UidHex, address: usize },
-    Locked { uid: UidHex, block: usize },
-    SpanSet { uid: UidHex, span: SpanText },
+    TagAdded { uid: Uid },
+    BytesPut { uid: Uid, address: usize },
+    Locked { uid: Uid, block: usize },
+    SpanSet { uid: Uid, span: Span },
     Silence,
     OneAnswer { answer: Vec<u8> },
     SeveralAnswers,
     Dumped { lines: String },
     SessionKept { session: KeptSession },
     MessageRead { message: Vec<u8>, exchanges: u64 },
+    // An answer and no error, so `?` passes none on: it may have let the draft go, and an error leaves all as it was.
     Refused { refusal: Refusal },
 }
 
@@ -48,16 +48,6 @@ impl Answer {
             Heard::Several => Answer::SeveralAnswers,
         }
     }
-}
-
-fn write_message<W: fmt::Write>(
-    message: &[u8],
-    exchanges: u64,
-    f: &mut fmt::Formatter<W>,
-) -> fmt::Result {
-    let length = message.len();
-    let hex = Hex(message);
-    write!(f, "read {length} {hex} exchanges {exchanges}")
 }
 
 impl fmt::Display for Answer {
@@ -80,7 +70,9 @@ impl fmt::Display for Answer {
             Answer::Dumped { lines } => f.write_str(lines.as_str()),
             Answer::SessionKept { session } => write!(f, "{session}"),
             Answer::MessageRead { message, exchanges } => {
-                write_message(message.as_slice(), *exchanges, f)
+                let length = message.len();
+                let hex = Hex(message.as_slice());
+                write!(f, "read {length} {hex} exchanges {exchanges}")
             }
             Answer::Refused { refusal } => write!(f, "{refusal}"),
         }

@@ -2,7 +2,9 @@
 ghost use Rattle.std.specs.Prelude.{◌≡◌, ◌≤◌, IfOk};
 ghost use Rattle.gate.specs.Digits.{spelled};
 
+use crate::fields::Fields;
 use crate::line_error::LineError;
+use crate::new_tag::NewTag;
 use crate::walk::Walk;
 use crate::words::Words;
 use crate::{span, uid, words};
@@ -21,10 +23,7 @@ pub enum Command<'a> {
     },
     // record TNF TYPE ID PAYLOAD
     Record {
-        format: Format,
-        kind: Vec<u8>,
-        id: Vec<u8>,
-        payload: Vec<u8>,
+        fields: Fields<Vec<u8>>,
     },
     // compose [ROOM]
     Compose {
@@ -44,11 +43,8 @@ pub enum Command<'a> {
     Show,
     // tag UID B N [wide] [multi] [lockable] [special] [span S]
     Tag {
-        uid: Uid,
         unit: usize,
-        count: u32,
-        marks: Marks,
-        span: Span,
+        tag: NewTag,
     },
     // bytes UID ADDRESS HEX
     Bytes {
@@ -92,29 +88,54 @@ const MOST_BLOCKS: usize = 65_536;
 pub fn parse(heap: Global, line: &[u8]) -> Result<Command<'_>, LineError> {
     let mut words = Words::new(line);
     let command = match words.name()? {
-        "house" => house(&mut words),
-        "record" => record(heap, &mut words),
-        "compose" => compose(&mut words),
-        "message" => message(heap, &mut words),
-        "recompose" => recompose(&mut words),
-        "records" => Ok(Command::Records),
-        "show" => Ok(Command::Show),
-        "tag" => new_tag(&mut words),
-        "bytes" => new_bytes(heap, &mut words),
-        "lock" => lock(&mut words),
-        "span" => new_span(&mut words),
-        "frame" => frame(heap, &mut words),
-        "dump" => dump(&mut words),
-        "detect" => detect(&mut words),
-        "read" => read(&mut words),
-        _ => Err(LineError::UnknownCommand),
-    }?;
+        "house" => house(&mut words)?,
+        "record" => record(heap, &mut words)?,
+        "compose" => Command::Compose {
+            room: room(&mut words)?,
+        },
+        "message" => Command::Message {
+            message: bytes(heap, &mut words)?,
+        },
+        "recompose" => Command::Recompose {
+            room: room(&mut words)?,
+        },
+        "records" => Command::Records,
+        "show" => Command::Show,
+        "tag" => new_tag(&mut words)?,
+        "bytes" => Command::Bytes {
+            uid: uid(&mut words)?,
+            address: number(&mut words)?,
+            bytes: bytes(heap, &mut words)?,
+        },
+        "lock" => Command::Lock {
+            uid: uid(&mut words)?,
+            block: number(&mut words)?,
+        },
+        "span" => Command::Span {
+            uid: uid(&mut words)?,
+            span: span(&mut words)?,
+        },
+        "frame" => Command::Frame {
+            frame: bytes(heap, &mut words)?,
+        },
+        "dump" => Command::Dump {
+            uid: uid(&mut words)?,
+        },
+        "detect" => Command::Detect {
+            uid: uid(&mut words)?,
+        },
+        "read" => Command::Read {
+            session: number(&mut words)?,
+            room: room(&mut words)?,
+        },
+        _ => return Err(LineError::UnknownCommand),
+    };
     words.finish()?;
     Ok(command)
 }
 
 fn house<'a>(words: &mut Words<'a>) -> Result<Command<'a>, LineError> {
-    let walk = Walk::read(words.needed()?)?;
+    let walk = Walk::try_from(words.needed()?)?;
     let text = words.take_rest().ok_or(LineError::MissingText)?;
     if text.is_empty() {
         return Err(LineError::MissingText);
@@ -123,91 +144,27 @@ fn house<'a>(words: &mut Words<'a>) -> Result<Command<'a>, LineError> {
 }
 
 fn record<'a>(heap: Global, words: &mut Words<'a>) -> Result<Command<'a>, LineError> {
-    let format = format_of(words.needed()?)?;
-    let kind = bytes(heap, words)?;
-    let id = bytes(heap, words)?;
-    let payload = bytes(heap, words)?;
-    Ok(Command::Record {
-        format,
-        kind,
-        id,
-        payload,
-    })
-}
-
-fn compose<'a>(words: &mut Words<'a>) -> Result<Command<'a>, LineError> {
-    Ok(Command::Compose { room: room(words)? })
-}
-
-fn message<'a>(heap: Global, words: &mut Words<'a>) -> Result<Command<'a>, LineError> {
-    Ok(Command::Message {
-        message: bytes(heap, words)?,
-    })
-}
-
-fn recompose<'a>(words: &mut Words<'a>) -> Result<Command<'a>, LineError> {
-    Ok(Command::Recompose { room: room(words)? })
+    let fields = Fields {
+        format: format(words)?,
+        kind: bytes(heap, words)?,
+        id: bytes(heap, words)?,
+        payload: bytes(heap, words)?,
+    };
+    Ok(Command::Record { fields })
 }
 
 fn new_tag<'a>(words: &mut Words<'a>) -> Result<Command<'a>, LineError> {
-    let uid = uid::read(words.needed()?)?;
-    let unit = words::number(words.needed()?)?;
+    let uid = uid(words)?;
+    let unit = number(words)?;
     let count = block_count(words.needed()?)?;
     let (marks, span) = marks_and_span(words)?;
-    Ok(Command::Tag {
+    let tag = NewTag {
         uid,
-        unit,
         count,
         marks,
         span,
-    })
-}
-
-fn new_bytes<'a>(heap: Global, words: &mut Words<'a>) -> Result<Command<'a>, LineError> {
-    let uid = uid::read(words.needed()?)?;
-    let address = words::number(words.needed()?)?;
-    let bytes = bytes(heap, words)?;
-    Ok(Command::Bytes {
-        uid,
-        address,
-        bytes,
-    })
-}
-
-fn lock<'a>(words: &mut Words<'a>) -> Result<Command<'a>, LineError> {
-    let uid = uid::read(words.needed()?)?;
-    let block = words::number(words.needed()?)?;
-    Ok(Command::Lock { uid, block })
-}
-
-fn new_span<'a>(words: &mut Words<'a>) -> Result<Command<'a>, LineError> {
-    let uid = uid::read(words.needed()?)?;
-    let span = span::read(words.needed()?)?;
-    Ok(Command::Span { uid, span })
-}
-
-fn frame<'a>(heap: Global, words: &mut Words<'a>) -> Result<Command<'a>, LineError> {
-    Ok(Command::Frame {
-        frame: bytes(heap, words)?,
-    })
-}
-
-fn dump<'a>(words: &mut Words<'a>) -> Result<Command<'a>, LineError> {
-    Ok(Command::Dump {
-        uid: uid::read(words.needed()?)?,
-    })
-}
-
-fn detect<'a>(words: &mut Words<'a>) -> Result<Command<'a>, LineError> {
-    Ok(Command::Detect {
-        uid: uid::read(words.needed()?)?,
-    })
-}
-
-fn read<'a>(words: &mut Words<'a>) -> Result<Command<'a>, LineError> {
-    let session = words::number(words.needed()?)?;
-    let room = room(words)?;
-    Ok(Command::Read { session, room })
+    };
+    Ok(Command::Tag { unit, tag })
 }
 
 // How many blocks a tag is to have.
@@ -228,7 +185,7 @@ fn marks_and_span(words: &mut Words) -> Result<(Marks, Span), LineError> {
         lockable: false,
         special: false,
     };
-    // There are four marks, each at most once.
+    // There are four marks, each at most once; a word behind four is one too many.
     for _ in 0..4 {
         match words.peek() {
             None | Some(b"span") => break,
@@ -238,31 +195,46 @@ fn marks_and_span(words: &mut Words) -> Result<(Marks, Span), LineError> {
     }
     if let Some(b"span") = words.peek() {
         let _ = words.next_word();
-        return Ok((marks, span::read(words.needed()?)?));
+        return Ok((marks, span(words)?));
     }
     Ok((marks, Span::Endless))
 }
 
 fn set_mark(marks: &mut Marks, word: &[u8]) -> Result<(), LineError> {
-    let is_set = match word {
-        b"wide" => mem::replace(&mut marks.wide, true),
-        b"multi" => mem::replace(&mut marks.multi, true),
-        b"lockable" => mem::replace(&mut marks.lockable, true),
-        b"special" => mem::replace(&mut marks.special, true),
+    let mark = match word {
+        b"wide" => &mut marks.wide,
+        b"multi" => &mut marks.multi,
+        b"lockable" => &mut marks.lockable,
+        b"special" => &mut marks.special,
         _ => return Err(LineError::BadMark),
     };
-    if is_set {
+    if mem::replace(mark, true) {
         return Err(LineError::RepeatedMark);
     }
     Ok(())
 }
 
-// The format that a TNF names.
-fn format_of(word: &[u8]) -> Result<Format, LineError> {
-    match words::number(word)? {
+// The format that the next word, a TNF, names.
+fn format(words: &mut Words) -> Result<Format, LineError> {
+    match number(words)? {
         number @ 0..=7 => Ok(Format::from_flags(number as u8)),
         _ => Err(LineError::BadFormat),
     }
+}
+
+// The UID of the next word.
+fn uid(words: &mut Words) -> Result<Uid, LineError> {
+    uid::read(words.needed()?)
+}
+
+// The span of the next word.
+fn span(words: &mut Words) -> Result<Span, LineError> {
+    span::read(words.needed()?)
+}
+
+// The number of the next word.
+fn number(words: &mut Words) -> Result<usize, LineError> {
+    words::number(words.needed()?)
 }
 
 // The bytes of the next word.

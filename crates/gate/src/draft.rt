@@ -2,11 +2,13 @@
 ghost use Rattle.std.specs.Prelude.{◌≡◌, ◌+◌, IfOk, vec_len, MatchResult};
 ghost use Rattle.gate.specs.Drafts.{Begins, Empty, Same};
 
+use crate::fields::Fields;
 use crate::line_error::LineError;
 use composer::{Description, Extent};
-use ndef::{Format, RecordRefusal};
+use ndef::RecordRefusal;
 use std::alloc::{AllocError, Global};
 
+// The composer's interface takes one store of bytes, and extents into it, so the draft keeps that.
 #[derive(Drop)]
 pub struct Draft {
     store: Vec<u8>,
@@ -27,23 +29,14 @@ fn keep(store: &mut Vec<u8>, bytes: &[u8]) -> Result<Extent, AllocError>
 }
 
 // Puts a record's parts into the store; where memory fails, some may be there already.
-fn describe(
-    store: &mut Vec<u8>,
-    format: Format,
-    kind: &[u8],
-    id: &[u8],
-    payload: &[u8],
-) -> Result<Description, AllocError>
+fn describe(store: &mut Vec<u8>, fields: Fields<&[u8]>) -> Result<Description, AllocError>
     ensures { Begins store.old store.new }
 {
-    let kind = keep(store, kind)?;
-    let id = keep(store, id)?;
-    let payload = keep(store, payload)?;
     Ok(Description {
-        format,
-        kind,
-        id,
-        payload,
+        format: fields.format,
+        kind: keep(store, fields.kind)?,
+        id: keep(store, fields.id)?,
+        payload: keep(store, fields.payload)?,
     })
 }
 
@@ -58,23 +51,17 @@ impl Draft {
     }
 
     // Adds a record, or nothing at all where memory fails.
-    pub fn add(
-        &mut self,
-        format: Format,
-        kind: &[u8],
-        id: &[u8],
-        payload: &[u8],
-    ) -> Result<(), LineError>
+    pub fn add(&mut self, fields: Fields<&[u8]>) -> Result<(), LineError>
         ensures { MatchResult result (λ _. vec_len self.new.descriptions ≡ vec_len self.old.descriptions + 1) (λ _. Same self.old self.new) }
     {
         let before = self.store.len();
-        if let Ok(description) = describe(&mut self.store, format, kind, id, payload)
+        if let Ok(description) = describe(&mut self.store, fields)
             && self.descriptions.push(description).is_ok()
         {
             return Ok(());
         }
         self.store.truncate(before);
-        Err(LineError::NoMemory)
+        Err(LineError::NoMemory(AllocError))
     }
 
     // Composes the records into the front of the space, and answers the message's length.

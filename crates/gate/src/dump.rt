@@ -1,22 +1,11 @@
 // A tag as a line of text.
 use crate::hex::Hex;
 use crate::line_error::LineError;
-use crate::span::SpanText;
-use crate::uid::UidHex;
 use bench::Bench;
 use memory::Memory;
 use rack::Slot;
 use std::alloc::Global;
 use std::fmt::Write;
-use tag::State;
-
-fn state_name(state: State) -> &'static str {
-    match state {
-        State::Ready => "READY",
-        State::Selected => "SELECTED",
-        State::Quiet => "QUIET",
-    }
-}
 
 // The bytes of all blocks.
 fn bytes_of(heap: Global, memory: &Bench) -> Result<Vec<u8>, LineError> {
@@ -46,9 +35,9 @@ pub fn add(heap: Global, lines: &mut String, slot: &Slot<Bench>) -> Result<(), L
     if !lines.is_empty() {
         lines.push('\n')?;
     }
-    let uid = UidHex(view.uid);
-    let state = state_name(view.state);
-    let span = SpanText(slot.span);
+    let uid = view.uid;
+    let state = view.state;
+    let span = slot.span;
     let bytes = Hex(bytes.as_slice());
     let locks = Hex(locks.as_slice());
     write!(

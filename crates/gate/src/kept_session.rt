@@ -13,15 +13,15 @@ pub struct KeptSession {
 
 impl fmt::Display for KeptSession {
     fn fmt<W: fmt::Write>(&self, f: &mut fmt::Formatter<W>) -> fmt::Result {
-        let number = self.number;
-        let block = self.unit.bytes();
-        let begin = self.place.container.begin;
-        let at = self.place.at;
-        let end = self.place.container.end;
-        let exchanges = self.exchanges;
         write!(
             f,
-            "session {number} block {block} c {begin} p {at} e {end} exchanges {exchanges}"
+            "session {} block {} c {} p {} e {} exchanges {}",
+            self.number,
+            self.unit.bytes(),
+            self.place.container.begin,
+            self.place.at,
+            self.place.container.end,
+            self.exchanges,
         )
     }
 }

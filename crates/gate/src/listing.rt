@@ -3,7 +3,7 @@ use crate::hex::Hex;
 use crate::line_error::LineError;
 use crate::refused::Refusal;
 use ndef::{Reader, Record};
-use std::alloc::Global;
+use std::alloc::{AllocError, Global};
 use std::fmt;
 use std::fmt::Write;
 
@@ -11,54 +11,48 @@ use std::fmt::Write;
 pub struct Listing {
     // a line for each record that is read
     lines: String,
-    count: usize,
-    // why the reading stopped, if the message is not good to its end
-    refusal: Option<Refusal>,
+    // how many they are, or why the reading stopped
+    end: Result<usize, Refusal>,
 }
 
 impl Listing {
     pub fn of(heap: Global, message: &[u8]) -> Result<Listing, LineError> {
-        let mut listing = Listing {
-            lines: String::new(heap),
-            count: 0,
-            refusal: None,
-        };
+        let mut lines = String::new(heap);
+        let mut count: usize = 0;
         let mut reader = Reader::new(message);
-        // A record takes a byte or more, so there are turns enough.
-        for _ in 0..=message.len() {
+        let end = loop {
             match reader.next_record() {
-                Ok(Some(record)) => listing.add(&record)?,
-                Ok(None) => break,
-                Err(refusal) => {
-                    listing.refusal = Some(Refusal::OfRecords(refusal));
-                    break;
+                Ok(Some(record)) => {
+                    write_record(&mut lines, &record)?;
+                    count = count.saturating_add(1);
                 }
+                Ok(None) => break Ok(count),
+                Err(refusal) => break Err(Refusal::from(refusal)),
             }
-        }
-        Ok(listing)
+        };
+        Ok(Listing { lines, end })
     }
+}
 
-    fn add(&mut self, record: &Record) -> Result<(), LineError> {
-        let place = record.place;
-        let number = record.format.number();
-        let kind = Hex(record.kind.bytes);
-        let id = Hex(record.id.bytes);
-        let payload = Hex(record.payload.bytes);
-        writeln!(self.lines, "record {place} {number} {kind} {id} {payload}")?;
-        self.count = self.count.saturating_add(1);
-        Ok(())
-    }
+// Puts the record's line at the end of the others.
+fn write_record(lines: &mut String, record: &Record) -> Result<(), AllocError> {
+    writeln!(
+        lines,
+        "record {} {} {} {} {}",
+        record.place,
+        record.format.number(),
+        Hex(record.kind.bytes),
+        Hex(record.id.bytes),
+        Hex(record.payload.bytes),
+    )
 }
 
 impl fmt::Display for Listing {
     fn fmt<W: fmt::Write>(&self, f: &mut fmt::Formatter<W>) -> fmt::Result {
         f.write_str(self.lines.as_str())?;
-        match self.refusal {
-            Some(refusal) => write!(f, "{refusal}"),
-            None => {
-                let count = self.count;
-                write!(f, "records {count}")
-            }
+        match self.end {
+            Ok(count) => write!(f, "records {count}"),
+            Err(refusal) => write!(f, "{refusal}"),
         }
     }
 }

@@ -1,8 +1,11 @@
 // A refusal as it is printed.
+ghost use Rattle.std.specs.Prelude.{◌≡◌};
+ghost use Rattle.gate.specs.declared.refused.Refusal.TheVariants.{OfRecords, OfMemory, OfTag, OfDetection, OfReading};
+
 use memory::MemoryRefusal;
 use ndef::RecordRefusal;
 use std::fmt;
-use t5t::{Cause, NotRead};
+use t5t::{Cause, NotFound, NotRead};
 use tag::TagRefusal;
 
 #[derive(Clone, Copy)]
@@ -15,36 +18,55 @@ pub enum Refusal {
     OfReading(NotRead),
 }
 
-fn write_records<W: fmt::Write>(refusal: RecordRefusal, f: &mut fmt::Formatter<W>) -> fmt::Result {
-    let number = refusal.number();
-    let place = refusal.place();
-    match refusal {
-        RecordRefusal::SpaceShort => write!(f, "refused {number} step 0 block 0 exchanges 0"),
-        RecordRefusal::BadHeader { .. } | RecordRefusal::BadDescription { .. } => {
-            write!(f, "refused {number} step 0 place {place} exchanges 0")
-        }
+impl From<RecordRefusal> for Refusal {
+    ghost from_gives = { λ refusal result. result ≡ OfRecords refusal };
+
+    fn from(refusal: RecordRefusal) -> Refusal {
+        Refusal::OfRecords(refusal)
     }
 }
 
-fn write_memory<W: fmt::Write>(refusal: MemoryRefusal, f: &mut fmt::Formatter<W>) -> fmt::Result {
-    let number = refusal.number();
-    let block = refusal.block();
-    write!(f, "refused {number} step 0 block {block} exchanges 0")
+impl From<MemoryRefusal> for Refusal {
+    ghost from_gives = { λ refusal result. result ≡ OfMemory refusal };
+
+    fn from(refusal: MemoryRefusal) -> Refusal {
+        Refusal::OfMemory(refusal)
+    }
 }
 
-fn write_tag<W: fmt::Write>(refusal: TagRefusal, f: &mut fmt::Formatter<W>) -> fmt::Result {
-    let number = refusal.number();
-    write!(f, "refused {number} step 0 block 0 exchanges 0")
+impl From<TagRefusal> for Refusal {
+    ghost from_gives = { λ refusal result. result ≡ OfTag refusal };
+
+    fn from(refusal: TagRefusal) -> Refusal {
+        Refusal::OfTag(refusal)
+    }
 }
 
+impl From<NotFound> for Refusal {
+    ghost from_gives = { λ not_found result. result ≡ OfDetection not_found.refusal };
+
+    fn from(not_found: NotFound) -> Refusal {
+        Refusal::OfDetection(not_found.refusal)
+    }
+}
+
+impl From<NotRead> for Refusal {
+    ghost from_gives = { λ not_read result. result ≡ OfReading not_read };
+
+    fn from(not_read: NotRead) -> Refusal {
+        Refusal::OfReading(not_read)
+    }
+}
+
+// A call's refusal is a type of crate `t5t`, so what prints it is no `Display`.
 fn write_call<W: fmt::Write>(refusal: t5t::Refusal, f: &mut fmt::Formatter<W>) -> fmt::Result {
-    let number = refusal.cause.number();
-    let step = refusal.step.number();
-    let block = refusal.block;
-    let exchanges = refusal.exchanges;
     write!(
         f,
-        "refused {number} step {step} block {block} exchanges {exchanges}"
+        "refused {} step {} block {} exchanges {}",
+        refusal.cause.number(),
+        refusal.step.number(),
+        refusal.block,
+        refusal.exchanges,
     )?;
     match refusal.cause {
         Cause::MessageSpaceShort { length } => write!(f, " length {length}"),
@@ -53,20 +75,32 @@ fn write_call<W: fmt::Write>(refusal: t5t::Refusal, f: &mut fmt::Formatter<W>) -
     }
 }
 
-fn write_reading<W: fmt::Write>(not_read: NotRead, f: &mut fmt::Formatter<W>) -> fmt::Result {
-    let got = not_read.got;
-    write_call(not_read.refusal, f)?;
-    write!(f, " got {got}")
-}
-
 impl fmt::Display for Refusal {
     fn fmt<W: fmt::Write>(&self, f: &mut fmt::Formatter<W>) -> fmt::Result {
         match self {
-            Refusal::OfRecords(refusal) => write_records(*refusal, f),
-            Refusal::OfMemory(refusal) => write_memory(*refusal, f),
-            Refusal::OfTag(refusal) => write_tag(*refusal, f),
+            Refusal::OfRecords(RecordRefusal::SpaceShort) => {
+                let number = RecordRefusal::SpaceShort.number();
+                write!(f, "refused {number} step 0 block 0 exchanges 0")
+            }
+            Refusal::OfRecords(refusal) => {
+                let number = refusal.number();
+                let place = refusal.place();
+                write!(f, "refused {number} step 0 place {place} exchanges 0")
+            }
+            Refusal::OfMemory(refusal) => {
+                let number = refusal.number();
+                let block = refusal.block();
+                write!(f, "refused {number} step 0 block {block} exchanges 0")
+            }
+            Refusal::OfTag(refusal) => {
+                let number = refusal.number();
+                write!(f, "refused {number} step 0 block 0 exchanges 0")
+            }
             Refusal::OfDetection(refusal) => write_call(*refusal, f),
-            Refusal::OfReading(not_read) => write_reading(*not_read, f),
+            Refusal::OfReading(NotRead { refusal, got }) => {
+                write_call(*refusal, f)?;
+                write!(f, " got {got}")
+            }
         }
     }
 }

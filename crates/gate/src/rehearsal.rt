@@ -4,7 +4,7 @@ ghost use Rattle.gate.specs.Adding.{Adding};
 ghost use Rattle.gate.specs.Detecting.{Detecting, Finds};
 ghost use Rattle.gate.specs.Drafts.{Empty};
 ghost use Rattle.gate.specs.Receiving.{Receives, Receiving};
-ghost use Rattle.gate.specs.Rehearsals.{SameSessions, Unchanged};
+ghost use Rattle.gate.specs.Rehearsals.{SameSessions, Still, Unchanged};
 ghost use Rattle.gate.specs.Running.{Runs};
 ghost use Rattle.gate.specs.Tagged.{SameTags};
 ghost use Rattle.gate.specs.Hearings.{Hearing};
@@ -14,23 +14,21 @@ use crate::answer::Answer;
 use crate::command;
 use crate::command::Command;
 use crate::draft::Draft;
+use crate::fields::Fields;
 use crate::hex::Hex;
 use crate::kept_session::KeptSession;
 use crate::line_error::LineError;
 use crate::listing::Listing;
+use crate::new_tag::NewTag;
 use crate::refused::Refusal;
 use crate::session::Session;
-use crate::spaces::Spaces;
-use crate::span::SpanText;
 use crate::tags::Tags;
-use crate::uid::UidHex;
 use crate::walk::Walk;
-use field::Span;
 use memory::BlockLength;
 use ndef::Format;
 use std::alloc::Global;
 use t5t::{Found, Received};
-use tag::{LONGEST_ANSWER, Marks, Uid};
+use tag::{LONGEST_ANSWER, Uid};
 
 #[derive(Drop)]
 pub struct Rehearsal {
@@ -47,6 +45,8 @@ pub struct Rehearsal {
 // What a text record's payload begins with: UTF-8, and a language of two letters.
 const ENGLISH: [u8; 3] = [0x02, b'e', b'n'];
 
+// What an error leaves is one named fact, `Unchanged`, in each contract: which part a method changes differs, so no split
+// of the struct says it.
 impl Rehearsal {
     pub fn new(heap: Global) -> Rehearsal {
         Rehearsal {
@@ -72,52 +72,33 @@ impl Rehearsal {
     {
         match command {
             Command::House { walk, text } => self.add_house(walk, text),
-            Command::Record {
-                format,
-                kind,
-                id,
-                payload,
-            } => {
-                self.draft
-                    .add(format, kind.as_slice(), id.as_slice(), payload.as_slice())?;
-                Ok(Answer::RecordAdded { format })
+            Command::Record { fields } => {
+                self.draft.add(fields.as_slices())?;
+                Ok(Answer::RecordAdded {
+                    format: fields.format,
+                })
             }
             Command::Compose { room } => self.compose(room),
             Command::Message { message } => Ok(self.set_message(message)),
             Command::Recompose { room } => self.recompose(room),
             Command::Records => self.list(),
             Command::Show => self.show(),
-            Command::Tag {
-                uid,
-                unit,
-                count,
-                marks,
-                span,
-            } => self.add_tag(uid, unit, count, marks, span),
+            Command::Tag { unit, tag } => self.add_tag(unit, tag),
             Command::Bytes {
                 uid,
                 address,
                 bytes,
             } => {
                 self.tags.put_bytes(uid, address, bytes.as_slice())?;
-                Ok(Answer::BytesPut {
-                    uid: UidHex(uid),
-                    address,
-                })
+                Ok(Answer::BytesPut { uid, address })
             }
             Command::Lock { uid, block } => {
                 self.tags.lock(uid, block)?;
-                Ok(Answer::Locked {
-                    uid: UidHex(uid),
-                    block,
-                })
+                Ok(Answer::Locked { uid, block })
             }
             Command::Span { uid, span } => {
                 self.tags.set_span(uid, span)?;
-                Ok(Answer::SpanSet {
-                    uid: UidHex(uid),
-                    span: SpanText(span),
-                })
+                Ok(Answer::SpanSet { uid, span })
             }
             Command::Frame { frame } => self.hear(frame.as_slice()),
             Command::Dump { uid } => {
@@ -131,20 +112,23 @@ impl Rehearsal {
 
     fn add_house(&mut self, walk: Walk, text: &[u8]) -> Result<Answer, LineError>
         ensures unchanged { OnErr result (Unchanged self.old self.new) }
-        ensures tags { SameTags self.old.tags self.new.tags }
-        ensures sessions { SameSessions self.old self.new }
+        ensures still { Still self.old self.new }
     {
         let mut payload = Vec::from_slice(self.heap, &ENGLISH)?;
         payload.extend_from_slice(text)?;
-        self.draft.add(Format::WellKnown, b"T", &walk.digits(), payload.as_slice())?;
+        self.draft.add(Fields {
+            format: Format::WellKnown,
+            kind: b"T",
+            id: &walk.digits(),
+            payload: payload.as_slice(),
+        })?;
         Ok(Answer::HouseAdded { walk })
     }
 
     // Composes the records, which are let go, composed or refused.
     fn compose(&mut self, room: usize) -> Result<Answer, LineError>
         ensures unchanged { OnErr result (Unchanged self.old self.new) }
-        ensures tags { SameTags self.old.tags self.new.tags }
-        ensures sessions { SameSessions self.old self.new }
+        ensures still { Still self.old self.new }
         ensures let_go { OnOk result (Empty self.new.draft) }
         ensures kept { IfOk result (λ a. (x : Refusal) → a ≡ Answer.Refused x → self.new.message ≡ self.old.message) }
     {
@@ -157,15 +141,14 @@ impl Rehearsal {
                 Ok(Answer::Composed { length })
             }
             Err(refusal) => Ok(Answer::Refused {
-                refusal: Refusal::OfRecords(refusal),
+                refusal: refusal.into(),
             }),
         }
     }
 
     fn recompose(&mut self, room: usize) -> Result<Answer, LineError>
         ensures unchanged { OnErr result (Unchanged self.old self.new) }
-        ensures tags { SameTags self.old.tags self.new.tags }
-        ensures sessions { SameSessions self.old self.new }
+        ensures still { Still self.old self.new }
         ensures kept { IfOk result (λ a. (x : Refusal) → a ≡ Answer.Refused x → self.new.message ≡ self.old.message) }
     {
         let mut space = vec![in self.heap; 0; room]?;
@@ -175,7 +158,7 @@ impl Rehearsal {
                 Ok(Answer::Recomposed { length })
             }
             Err(refusal) => Ok(Answer::Refused {
-                refusal: Refusal::OfRecords(refusal),
+                refusal: refusal.into(),
             }),
         }
     }
@@ -183,8 +166,7 @@ impl Rehearsal {
     // Makes the front of the space the current message.
     fn adopt(&mut self, mut space: Vec<u8>, length: usize)
         ensures draft { self.new.draft ≡ self.old.draft }
-        ensures tags { SameTags self.old.tags self.new.tags }
-        ensures sessions { SameSessions self.old self.new }
+        ensures still { Still self.old self.new }
         ensures message { self.new.message.items ≡ take length space.items }
     {
         space.truncate(length);
@@ -193,8 +175,7 @@ impl Rehearsal {
 
     fn set_message(&mut self, message: Vec<u8>) -> Answer
         ensures message { self.new.message ≡ message }
-        ensures tags { SameTags self.old.tags self.new.tags }
-        ensures sessions { SameSessions self.old self.new }
+        ensures still { Still self.old self.new }
     {
         self.message = message;
         Answer::MessageSet {
@@ -212,26 +193,19 @@ impl Rehearsal {
         Ok(Answer::Message { hex })
     }
 
-    fn add_tag(
-        &mut self,
-        uid: Uid,
-        unit: usize,
-        count: u32,
-        marks: Marks,
-        span: Span,
-    ) -> Result<Answer, LineError>
+    fn add_tag(&mut self, unit: usize, tag: NewTag) -> Result<Answer, LineError>
         ensures unchanged { OnErr result (Unchanged self.old self.new) }
         ensures kept { IfOk result (λ a. (x : Refusal) → a ≡ Answer.Refused x → SameTags self.old.tags self.new.tags) }
-        ensures added { IfOk result (λ a. Adding uid count marks span (listed unit) self.old.tags self.new.tags a) }
+        ensures added { IfOk result (λ a. Adding tag (listed unit) self.old.tags self.new.tags a) }
         ensures sessions { SameSessions self.old self.new }
     {
-        match BlockLength::new(unit) {
+        match BlockLength::try_from(unit) {
             Ok(unit) => {
-                self.tags.add(uid, unit, count, marks, span)?;
-                Ok(Answer::TagAdded { uid: UidHex(uid) })
+                self.tags.add(tag, unit)?;
+                Ok(Answer::TagAdded { uid: tag.uid })
             }
             Err(refusal) => Ok(Answer::Refused {
-                refusal: Refusal::OfMemory(refusal),
+                refusal: refusal.into(),
             }),
         }
     }
@@ -246,7 +220,7 @@ impl Rehearsal {
         match self.tags.hear(frame, space.as_mut_slice()) {
             Ok(heard) => Ok(Answer::of_heard(heard, space)),
             Err(refusal) => Ok(Answer::Refused {
-                refusal: Refusal::OfTag(refusal),
+                refusal: refusal.into(),
             }),
         }
     }
@@ -257,11 +231,11 @@ impl Rehearsal {
         ensures detected { IfOk result (λ a. Detecting uid.0 self.old self.new a) }
     {
         self.sessions.reserve(1)?;
-        let mut space = vec![in self.heap; 0u8; LONGEST_ANSWER]?;
-        match self.tags.detect(uid, space.as_mut_slice()) {
+        let mut space = [0; LONGEST_ANSWER];
+        match self.tags.detect(uid, &mut space) {
             Ok(found) => Ok(self.keep(found)),
             Err(not_found) => Ok(Answer::Refused {
-                refusal: Refusal::OfDetection(not_found.refusal),
+                refusal: not_found.into(),
             }),
         }
     }
@@ -290,22 +264,14 @@ impl Rehearsal {
         ensures unchanged { OnErr result (Unchanged self.old self.new) }
         ensures received { IfOk result (λ a. Receiving number room self.old self.new a) }
     {
-        if number >= self.sessions.len() {
-            return Err(LineError::NoSession);
-        }
-        let Spaces {
-            mut answer,
-            mut message,
-            copy,
-        } = Spaces::new(self.heap, room)?;
-        match self.tags.read(
-            &self.sessions[number],
-            answer.as_mut_slice(),
-            message.as_mut_slice(),
-        ) {
+        let session = self.sessions.get(number).ok_or(LineError::NoSession)?;
+        let mut space = [0; LONGEST_ANSWER];
+        let mut message = vec![in self.heap; 0; room]?;
+        let copy = vec![in self.heap; 0; room]?;
+        match self.tags.read(session, &mut space, message.as_mut_slice()) {
             Ok(received) => Ok(self.receive(received, message, copy)),
             Err(not_read) => Ok(Answer::Refused {
-                refusal: Refusal::OfReading(not_read),
+                refusal: not_read.into(),
             }),
         }
     }
@@ -314,8 +280,7 @@ impl Rehearsal {
     fn receive(&mut self, received: Received, message: Vec<u8>, mut copy: Vec<u8>) -> Answer
         requires { vec_len copy ≡ vec_len message }
         ensures received { Receives (Ok received) message.items self.old self.new result }
-        ensures tags { SameTags self.old.tags self.new.tags }
-        ensures sessions { SameSessions self.old self.new }
+        ensures still { Still self.old self.new }
         ensures draft { self.new.draft ≡ self.old.draft }
     {
         copy.copy_from_slice(message.as_slice());

@@ -2,6 +2,7 @@
 use crate::line_error::LineError;
 use crate::rehearsal::Rehearsal;
 use anyhow::anyhow;
+use std::alloc::AllocError;
 use std::io;
 use std::io::{BufRead, BufReader, ErrorKind};
 
@@ -10,9 +11,8 @@ pub fn play(rt: &HostRuntime) -> anyhow::Result<()> {
     let heap = rt.alloc();
     let mut rehearsal = Rehearsal::new(heap);
     let mut is_understood = true;
-    let mut number: u64 = 0;
-    for line in BufReader::new(heap, rt.stdin())?.split(heap, b'\n') {
-        number = number.saturating_add(1);
+    let lines = BufReader::new(heap, rt.stdin())?.split(heap, b'\n');
+    for (number, line) in (1u64..).zip(lines) {
         match line {
             Ok(line) => is_understood &= follow(rt, &mut rehearsal, number, line.as_slice())?,
             Err(error) => return Err(unread(rt, number, error)),
@@ -61,7 +61,7 @@ fn is_passed_over(line: &[u8]) -> bool {
 // A line that cannot be read ends the script, since its rest could not be told from a line.
 fn unread(rt: &HostRuntime, number: u64, error: io::Error) -> anyhow::Error {
     if error.kind() == ErrorKind::OutOfMemory {
-        let why = LineError::NoMemory;
+        let why = LineError::from(AllocError);
         let _ = println!(rt; "line {number}: {why}");
     }
     error.into()

@@ -5,6 +5,7 @@ ghost use Rattle.gate.specs.Sessions.{ReadsWith};
 use field::Field;
 use t5t::{Closed, Detected, NotRead, Received};
 
+// Sessions in both states stand in one list, so a variant tells the state.
 #[derive(Drop)]
 pub enum Session {
     Detected(Detected),

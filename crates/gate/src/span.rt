@@ -1,32 +1,18 @@
-// A span as it is typed and printed: `endless`, or a number of half exchanges.
+// A span as it is typed: `endless`, or a number of half exchanges.
 ghost use Rattle.std.specs.Prelude.{IfOk};
 ghost use Rattle.gate.specs.Spans.{Spells};
 
 use crate::line_error::LineError;
 use crate::words;
 use field::Span;
-use std::fmt;
 
-#[derive(Clone, Copy)]
-pub struct SpanText(pub Span);
-
+// A span is a type of crate `field`, so what reads it is no `TryFrom`.
 pub fn read(word: &[u8]) -> Result<Span, LineError>
     ensures { IfOk result (λ s. Spells word.now s) }
 {
     if word == b"endless".as_slice() {
         return Ok(Span::Endless);
     }
-    match words::number(word) {
-        Ok(number) => Ok(Span::Left(number as u64)),
-        Err(_) => Err(LineError::BadSpan),
-    }
-}
-
-impl fmt::Display for SpanText {
-    fn fmt<W: fmt::Write>(&self, f: &mut fmt::Formatter<W>) -> fmt::Result {
-        match self.0 {
-            Span::Endless => f.write_str("endless"),
-            Span::Left(number) => write!(f, "{number}"),
-        }
-    }
+    let number = words::number(word).map_err(|_| LineError::BadSpan)?;
+    Ok(Span::Left(number as u64))
 }

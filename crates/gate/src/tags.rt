@@ -1,12 +1,16 @@
 // The tags of a rehearsal, in the order in which they were put there.
-ghost use Rattle.std.specs.Prelude.{◌≡◌, ◌+◌, ◌<◌, vec_len, MatchResult, OnErr};
+ghost use Rattle.std.specs.Prelude.{◌≡◌, ◌+◌, ◌<◌, vec_len, MatchResult, OnErr, slice_index_or};
 ghost use Rattle.field.specs.Exchange.{Exchanged};
+ghost use Rattle.bench.specs.declared.bench.Bench.{Bench};
+ghost use Rattle.gate.specs.Preparing.{Prepared, bytes_put, remade};
+ghost use Rattle.memory.specs.Model.{with_lock};
+ghost use Rattle.rack.specs.declared.rack.Slot.{Slot};
 ghost use Rattle.gate.specs.Sessions.{ReadsWith, air_over};
 ghost use Rattle.t5t.specs.Detects.{Detects};
-ghost use Rattle.gate.specs.Tagged.{SameTags, WithNew, placed, blank_tag, first_with, spanned};
-ghost use Rattle.memory.specs.BlockLength.{bytes_of};
+ghost use Rattle.gate.specs.Tagged.{SameTags, WithNew, placed, blank_placed, first_with, spanned};
 
 use crate::line_error::LineError;
+use crate::new_tag::NewTag;
 use crate::session::Session;
 use crate::{dump, prepared};
 use bench::Bench;
@@ -15,7 +19,7 @@ use memory::{BlockLength, Memory};
 use rack::{Rack, Slot};
 use std::alloc::Global;
 use t5t::{Found, NotFound, NotRead, Received, Sighted};
-use tag::{Marks, Tag, TagRefusal, Uid};
+use tag::{Tag, TagRefusal, Uid};
 
 #[derive(Drop)]
 pub struct Tags {
@@ -36,19 +40,13 @@ impl Tags {
     }
 
     // Adds a blank tag behind the others.
-    pub fn add(
-        &mut self,
-        uid: Uid,
-        unit: BlockLength,
-        count: u32,
-        marks: Marks,
-        span: Span,
-    ) -> Result<(), LineError>
+    pub fn add(&mut self, new: NewTag, unit: BlockLength) -> Result<(), LineError>
         ensures count { MatchResult result (λ _. vec_len self.new.rack.slots ≡ vec_len self.old.rack.slots + 1) (λ _. SameTags self.old self.new) }
-        ensures added { MatchResult result (λ _. WithNew (record { tag = blank_tag uid.0 (bytes_of unit) count marks; span = span }) self.old self.new) (λ _. SameTags self.old self.new) }
+        ensures added { MatchResult result (λ _. WithNew (blank_placed new unit) self.old self.new) (λ _. SameTags self.old self.new) }
     {
-        let memory = prepared::blank(self.heap, unit, count)?;
-        let tag = Tag::new(memory, uid, marks);
+        let memory = prepared::blank(self.heap, unit, new.count)?;
+        let tag = Tag::new(memory, new.uid, new.marks);
+        let span = new.span;
         self.rack.slots.push(Slot { tag, span })?;
         Ok(())
     }
@@ -57,44 +55,49 @@ impl Tags {
     fn first(&self, uid: Uid) -> Result<usize, LineError>
         ensures { MatchResult result (λ i. (i ≡ first_with uid.0 self.now) × (i < vec_len self.now.rack.slots)) (λ _. first_with uid.0 self.now ≡ vec_len self.now.rack.slots) }
     {
-        for (index, slot) in self.rack.slots.iter().enumerate() {
-            if slot.tag.view().uid.0 == uid.0 {
-                return Ok(index);
-            }
-        }
-        Err(LineError::NoTag)
+        self.rack
+            .slots
+            .iter()
+            .position(|slot| slot.tag.view().uid == uid)
+            .ok_or(LineError::NoTag)
+    }
+
+    // Gives the tag at a place what is made of its memory.
+    fn prepare<F: FnOnce(Bench) -> Bench>(&mut self, index: usize, make: F)
+        requires place { index < vec_len self.old.rack.slots }
+        requires callable { (slot : Slot Bench) → slot ≡ slice_index_or self.old.rack.slots.items index slot → F.pre make slot.tag.memory }
+        ensures { Prepared index self.old.rack.slots.items self.new.rack.slots.items (F.post make) }
+    {
+        let tag = &mut self.rack.slots[index].tag;
+        let unit = tag.view().memory.block_length();
+        let memory = tag.replace_memory(prepared::empty(self.heap, unit));
+        let _ = tag.replace_memory(make(memory));
     }
 
     // Puts bytes into the memory of the first tag with that UID, locked or not.
     pub fn put_bytes(&mut self, uid: Uid, address: usize, bytes: &[u8]) -> Result<(), LineError>
-        ensures { OnErr result (SameTags self.old self.new) }
+        ensures { MatchResult result (λ _. placed self.new ≡ remade uid.0 (bytes_put address bytes.now) (placed self.old)) (λ _. SameTags self.old self.new) }
     {
         let index = self.first(uid)?;
         let memory = self.rack.slots[index].tag.view().memory;
-        let unit = memory.block_length();
-        let length = unit.bytes() * memory.block_count() as usize;
+        let length = memory.block_length().bytes() * memory.block_count() as usize;
         if address > length || bytes.len() > length - address {
             return Err(LineError::OutsideMemory);
         }
-        let tag = &mut self.rack.slots[index].tag;
-        let memory = tag.replace_memory(prepared::empty(self.heap, unit));
-        let _ = tag.replace_memory(prepared::with_bytes(memory, address, bytes));
+        self.prepare(index, |memory| prepared::with_bytes(memory, address, bytes));
         Ok(())
     }
 
     // Locks a block of the first tag with that UID.
     pub fn lock(&mut self, uid: Uid, block: usize) -> Result<(), LineError>
-        ensures { OnErr result (SameTags self.old self.new) }
+        ensures { MatchResult result (λ _. placed self.new ≡ remade uid.0 (λ m. with_lock m block) (placed self.old)) (λ _. SameTags self.old self.new) }
     {
         let index = self.first(uid)?;
         let memory = self.rack.slots[index].tag.view().memory;
-        let unit = memory.block_length();
         if block >= memory.block_count() as usize {
             return Err(LineError::NoBlock);
         }
-        let tag = &mut self.rack.slots[index].tag;
-        let memory = tag.replace_memory(prepared::empty(self.heap, unit));
-        let _ = tag.replace_memory(prepared::with_lock(memory, block as u32));
+        self.prepare(index, |memory| prepared::with_lock(memory, block as u32));
         Ok(())
     }
 
@@ -139,7 +142,7 @@ impl Tags {
     pub fn dump(&self, uid: Uid) -> Result<String, LineError> {
         let mut lines = String::new(self.heap);
         for slot in self.rack.slots.iter() {
-            if slot.tag.view().uid.0 == uid.0 {
+            if slot.tag.view().uid == uid {
                 dump::add(self.heap, &mut lines, slot)?;
             }
         }

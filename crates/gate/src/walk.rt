@@ -24,16 +24,6 @@ impl Walk {
     // The most digits that a walk number has.
     const DIGITS: usize = 4;
 
-    pub fn read(word: &[u8]) -> Result<Walk, LineError>
-        ensures { IfOk result (λ w. (w.number ≡ spelled word.now) × (w.width ≡ length word.now) × (w.width ≤ 4)) }
-    {
-        let width = word.len();
-        match words::number(word) {
-            Ok(number) if width <= Self::DIGITS => Ok(Walk { number, width }),
-            _ => Err(LineError::BadWalk),
-        }
-    }
-
     // Its four digits, with zeros on the left.
     pub fn digits(self) -> [u8; 4]
         ensures { result ≡ padded self.number }
@@ -45,6 +35,21 @@ impl Walk {
             last_digit(number / 10),
             last_digit(number),
         ]
+    }
+}
+
+impl TryFrom<&[u8]> for Walk {
+    type Error = LineError;
+
+    ghost try_from_gives = { λ word result. IfOk result (λ w. (w.number ≡ spelled word.now) × (w.width ≡ length word.now) × (w.width ≤ 4)) };
+
+    fn try_from(word: &[u8]) -> Result<Walk, LineError> {
+        let width = word.len();
+        if width > Walk::DIGITS {
+            return Err(LineError::BadWalk);
+        }
+        let number = words::number(word).map_err(|_| LineError::BadWalk)?;
+        Ok(Walk { number, width })
     }
 }
 

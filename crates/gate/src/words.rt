@@ -46,10 +46,7 @@ impl<'a> Words<'a> {
 
     // The word that names a command, which is text.
     pub fn name(&mut self) -> Result<&'a str, LineError> {
-        match from_utf8(self.needed()?) {
-            Ok(name) => Ok(name),
-            Err(_) => Err(LineError::UnknownCommand),
-        }
+        from_utf8(self.needed()?).map_err(|_| LineError::UnknownCommand)
     }
 
     // That the line has no word left.
@@ -67,12 +64,10 @@ fn word_end(bytes: &[u8]) -> usize
     ensures before { (k : ℕ) → k < result → slice_index bytes.now k ≢ 32 }
     ensures found { result < length bytes.now → slice_index bytes.now result ≡ 32 }
 {
-    for (index, byte) in bytes.iter().enumerate() {
-        if *byte == b' ' {
-            return index;
-        }
-    }
-    bytes.len()
+    bytes
+        .iter()
+        .position(|byte| *byte == b' ')
+        .unwrap_or(bytes.len())
 }
 
 fn decimal_digit(byte: u8) -> Result<usize, LineError>
@@ -88,13 +83,10 @@ fn decimal_digit(byte: u8) -> Result<usize, LineError>
 fn with_digit(number: usize, digit: usize) -> Result<usize, LineError>
     ensures { IfOk result (λ n. n ≡ 10 * number + digit) }
 {
-    let Some(tens) = number.checked_mul(10) else {
-        return Err(LineError::NumberTooLarge);
-    };
-    match tens.checked_add(digit) {
-        Some(longer) => Ok(longer),
-        None => Err(LineError::NumberTooLarge),
-    }
+    number
+        .checked_mul(10)
+        .and_then(|tens| tens.checked_add(digit))
+        .ok_or(LineError::NumberTooLarge)
 }
 
 // The number that the decimal digits of a word spell.

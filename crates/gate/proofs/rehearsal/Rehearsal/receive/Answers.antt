@@ -1,8 +1,7 @@
 use Rattle.std.proofs.Common.{take, refl, ap, ◌∙◌}
 use Rattle.gate.proofs.rehearsal.Rehearsal.receive.Goals as goal
 
-pub returns : goal.returns
-returns c =
+pub returns-clause-received : goal.returns-clause-received
+returns-clause-received c =
     let copied = c.copy_from_slice.ensures.items ∙ c.as_slice.ensures.value in
-    let front = c.truncate.ensures.items ∙ ap (take c.args.received.length) copied in
-    record { received = (c.truncate.new.self, front, c.adopt.ensures.message, refl); tags = c.adopt.ensures.tags; sessions = c.adopt.ensures.sessions; draft = c.adopt.ensures.draft }
+    (c.truncate.new.self, c.truncate.ensures.items ∙ ap (take c.args.received.length) copied, c.adopt.ensures.message, refl)
