@@ -1,9 +1,10 @@
 // The tags of a rehearsal, in the order in which they were put there.
-ghost use Rattle.std.specs.Prelude.{◌≡◌, ◌+◌, ◌<◌, vec_len, MatchResult, OnErr, slice_index_or};
+ghost use Rattle.std.specs.Prelude.{◌≡◌, ◌+◌, ◌<◌, ◌≤◌, length, vec_len, MatchResult, OnErr, slice_index_or};
+ghost use Rattle.bench.specs.Bench.{bench_model};
 ghost use Rattle.field.specs.Exchange.{Exchanged};
 ghost use Rattle.bench.specs.declared.bench.Bench.{Bench};
 ghost use Rattle.gate.specs.Preparing.{Prepared, bytes_put, remade};
-ghost use Rattle.memory.specs.Model.{with_lock};
+ghost use Rattle.memory.specs.Model.{count_of, put_at, with_lock};
 ghost use Rattle.rack.specs.declared.rack.Slot.{Slot};
 ghost use Rattle.gate.specs.Sessions.{ReadsWith, air_over};
 ghost use Rattle.t5t.specs.Detects.{Detects};
@@ -25,6 +26,37 @@ use tag::{Tag, TagRefusal, Uid};
 pub struct Tags {
     heap: Global,
     rack: Rack<Bench>,
+}
+
+// Puts the new bytes over those at an address.
+fn put(bytes: &mut Vec<u8>, address: usize, new: &[u8])
+    requires { address + length new.now ≤ vec_len bytes.old }
+    ensures { bytes.new.items ≡ put_at address new.now bytes.old.items }
+{
+    bytes[address..address + new.len()].copy_from_slice(new);
+}
+
+// The memory with new bytes from an address on, whether their blocks are locked or not.
+#[tactic(auto, using(crate::proofs::Preparing::bench_bytes, std::proofs::lemmas::Grind::common_steps))]
+fn with_bytes(memory: Bench, address: usize, new: &[u8]) -> Bench
+    requires { address + length new.now ≤ length (bench_model memory).bytes }
+    ensures locks { result.locks ≡ memory.locks }
+    ensures bytes { bench_model result ≡ bytes_put address new.now (bench_model memory) }
+{
+    let unit = memory.block_length();
+    let (mut bytes, locks) = memory.into_parts();
+    put(&mut bytes, address, new);
+    Bench::new(unit, bytes, locks)
+}
+
+// The memory with that block locked, which it may have been before.
+fn with_lock(mut memory: Bench, block: u32) -> Bench
+    requires { block < count_of (bench_model memory) }
+    ensures bytes { result.bytes.items ≡ memory.bytes.items }
+    ensures lock { bench_model result ≡ with_lock (bench_model memory) block }
+{
+    let _ = memory.lock(block);
+    memory
 }
 
 impl Tags {
@@ -84,7 +116,7 @@ impl Tags {
         if address > length || bytes.len() > length - address {
             return Err(LineError::OutsideMemory);
         }
-        self.prepare(index, |memory| prepared::with_bytes(memory, address, bytes));
+        self.prepare(index, |memory| with_bytes(memory, address, bytes));
         Ok(())
     }
 
@@ -97,7 +129,7 @@ impl Tags {
         if block >= memory.block_count() as usize {
             return Err(LineError::NoBlock);
         }
-        self.prepare(index, |memory| prepared::with_lock(memory, block as u32));
+        self.prepare(index, |memory| with_lock(memory, block as u32));
         Ok(())
     }
 
