@@ -38,7 +38,7 @@ fn put(bytes: &mut Vec<u8>, address: usize, new: &[u8])
 
 // The memory with new bytes from an address on, whether their blocks are locked or not.
 #[tactic(auto, using(crate::proofs::Preparing::bench_bytes, std::proofs::lemmas::Grind::common_steps))]
-fn with_bytes(memory: Bench, address: usize, new: &[u8]) -> Bench
+fn bytes_laid(memory: Bench, address: usize, new: &[u8]) -> Bench
     requires { address + length new.now ≤ length (bench_model memory).bytes }
     ensures locks { result.locks ≡ memory.locks }
     ensures bytes { bench_model result ≡ bytes_put address new.now (bench_model memory) }
@@ -50,7 +50,7 @@ fn with_bytes(memory: Bench, address: usize, new: &[u8]) -> Bench
 }
 
 // The memory with that block locked, which it may have been before.
-fn with_lock(mut memory: Bench, block: u32) -> Bench
+fn block_locked(mut memory: Bench, block: u32) -> Bench
     requires { block < count_of (bench_model memory) }
     ensures bytes { result.bytes.items ≡ memory.bytes.items }
     ensures lock { bench_model result ≡ with_lock (bench_model memory) block }
@@ -116,7 +116,7 @@ impl Tags {
         if address > length || bytes.len() > length - address {
             return Err(LineError::OutsideMemory);
         }
-        self.prepare(index, |memory| with_bytes(memory, address, bytes));
+        self.prepare(index, |memory| bytes_laid(memory, address, bytes));
         Ok(())
     }
 
@@ -129,7 +129,7 @@ impl Tags {
         if block >= memory.block_count() as usize {
             return Err(LineError::NoBlock);
         }
-        self.prepare(index, |memory| with_lock(memory, block as u32));
+        self.prepare(index, |memory| block_locked(memory, block as u32));
         Ok(())
     }
 
