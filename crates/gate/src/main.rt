@@ -3,6 +3,7 @@
 
 mod answer;
 mod command;
+mod desk;
 mod draft;
 mod dump;
 mod fields;
