@@ -8,7 +8,7 @@ use composer::{Description, Extent};
 use ndef::RecordRefusal;
 use std::alloc::{AllocError, Global};
 
-// The composer's interface takes one store of bytes, and extents into it, so the draft keeps that.
+// The composer's `compose` is public and takes one store of bytes and extents into it: that signature stands.
 #[derive(Drop)]
 pub struct Draft {
     store: Vec<u8>,

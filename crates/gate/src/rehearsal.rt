@@ -1,13 +1,9 @@
 // A rehearsal: what a script has made so far, and how each command changes it.
 ghost use Rattle.std.specs.Prelude.{◌≡◌, ◌<◌, IfOk, Ok, vec_len, vec_capacity, OnErr};
-ghost use Rattle.gate.specs.Adding.{Adding};
 ghost use Rattle.gate.specs.Detecting.{Detecting, Finds};
 ghost use Rattle.gate.specs.Receiving.{Receiving};
-ghost use Rattle.gate.specs.Rehearsals.{SameSessions, Unchanged};
+ghost use Rattle.gate.specs.Rehearsals.{Unchanged};
 ghost use Rattle.gate.specs.Running.{Runs};
-ghost use Rattle.gate.specs.Tagged.{SameTags};
-ghost use Rattle.gate.specs.Hearings.{Hearing};
-ghost use Rattle.memory.specs.BlockLength.{listed};
 
 use crate::answer::Answer;
 use crate::command;
@@ -15,11 +11,8 @@ use crate::command::Command;
 use crate::desk::Desk;
 use crate::kept_session::KeptSession;
 use crate::line_error::LineError;
-use crate::new_tag::NewTag;
-use crate::refused::Refusal;
 use crate::session::Session;
 use crate::tags::Tags;
-use memory::BlockLength;
 use std::alloc::Global;
 use t5t::Found;
 use tag::{LONGEST_ANSWER, Uid};
@@ -64,7 +57,7 @@ impl Rehearsal {
             Command::Recompose { room } => self.desk.recompose(room),
             Command::Records => self.desk.list(),
             Command::Show => self.desk.show(),
-            Command::Tag { unit, tag } => self.add_tag(unit, tag),
+            Command::Tag { unit, tag } => self.tags.add_tag(unit, tag),
             Command::Bytes {
                 uid,
                 address,
@@ -81,45 +74,13 @@ impl Rehearsal {
                 self.tags.set_span(uid, span)?;
                 Ok(Answer::SpanSet { uid, span })
             }
-            Command::Frame { frame } => self.hear(frame.as_slice()),
+            Command::Frame { frame } => self.tags.hear(frame.as_slice()),
             Command::Dump { uid } => {
                 let lines = self.tags.dump(uid)?;
                 Ok(Answer::Dumped { lines })
             }
             Command::Detect { uid } => self.detect(uid),
             Command::Read { session, room } => self.read(session, room),
-        }
-    }
-
-    fn add_tag(&mut self, unit: usize, tag: NewTag) -> Result<Answer, LineError>
-        ensures unchanged { OnErr result (Unchanged self.old self.new) }
-        ensures kept { IfOk result (λ a. (x : Refusal) → a ≡ Answer.Refused x → SameTags self.old.tags self.new.tags) }
-        ensures added { IfOk result (λ a. Adding tag (listed unit) self.old.tags self.new.tags a) }
-        ensures sessions { SameSessions self.old self.new }
-    {
-        match BlockLength::try_from(unit) {
-            Ok(unit) => {
-                self.tags.add(tag, unit)?;
-                Ok(Answer::TagAdded { uid: tag.uid })
-            }
-            Err(refusal) => Ok(Answer::Refused {
-                refusal: refusal.into(),
-            }),
-        }
-    }
-
-    // Lets every tag in reach hear a frame.
-    fn hear(&mut self, frame: &[u8]) -> Result<Answer, LineError>
-        ensures unchanged { OnErr result (Unchanged self.old self.new) }
-        ensures heard { IfOk result (λ a. Hearing self.old.tags self.new.tags frame.now a) }
-        ensures sessions { SameSessions self.old self.new }
-    {
-        let mut space = vec![in self.heap; 0u8; LONGEST_ANSWER]?;
-        match self.tags.hear(frame, space.as_mut_slice()) {
-            Ok(heard) => Ok(Answer::of_heard(heard, space)),
-            Err(refusal) => Ok(Answer::Refused {
-                refusal: refusal.into(),
-            }),
         }
     }
 
@@ -164,6 +125,7 @@ impl Rehearsal {
         let session = self.sessions.get(number).ok_or(LineError::NoSession)?;
         let mut space = [0; LONGEST_ANSWER];
         let mut message = vec![in self.heap; 0; room]?;
+        // Made before a frame is sent, so that want of memory changes nothing.
         let copy = vec![in self.heap; 0; room]?;
         match self.tags.read(session, &mut space, message.as_mut_slice()) {
             Ok(received) => Ok(self.desk.receive(received, message, copy)),

@@ -6,7 +6,7 @@ use tag::Uid;
 // How many digits a UID has.
 const DIGITS: usize = 16;
 
-// A UID is a type of crate `tag`, so what reads it is no `TryFrom`.
+// How a line spells a UID is this program's, and a `TryFrom<&[u8]>` would have to stand beside the library's type.
 pub fn read(word: &[u8]) -> Result<Uid, LineError> {
     if word.len() != DIGITS {
         return Err(LineError::BadUid);
