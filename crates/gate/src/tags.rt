@@ -18,7 +18,7 @@ use crate::line_error::LineError;
 use crate::new_tag::NewTag;
 use crate::refused::Refusal;
 use crate::session::Session;
-use crate::{dump, prepared};
+use crate::{dump, memories};
 use bench::Bench;
 use field::{Field, Heard, Span};
 use memory::{BlockLength, Memory};
@@ -101,7 +101,7 @@ impl Tags {
         ensures count { MatchResult result (λ _. vec_len self.new.rack.slots ≡ vec_len self.old.rack.slots + 1) (λ _. SameTags self.old self.new) }
         ensures added { MatchResult result (λ _. WithNew (blank_placed new unit) self.old self.new) (λ _. SameTags self.old self.new) }
     {
-        let memory = prepared::blank(self.heap, unit, new.count)?;
+        let memory = memories::blank(self.heap, unit, new.count)?;
         let tag = Tag::new(memory, new.uid, new.marks);
         let span = new.span;
         self.rack.slots.push(Slot { tag, span })?;
@@ -127,7 +127,7 @@ impl Tags {
     {
         let tag = &mut self.rack.slots[index].tag;
         let unit = tag.view().memory.block_length();
-        let memory = tag.replace_memory(prepared::empty(self.heap, unit));
+        let memory = tag.replace_memory(memories::empty(self.heap, unit));
         let _ = tag.replace_memory(make(memory));
     }
 

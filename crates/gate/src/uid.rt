@@ -11,6 +11,7 @@ pub fn read(word: &[u8]) -> Result<Uid, LineError> {
     if word.len() != DIGITS {
         return Err(LineError::BadUid);
     }
+    // A fold beside that of `words::number`: 16 hex digits fit a UID, so none of its steps can be too large.
     let mut number: u64 = 0;
     for byte in word {
         let digit = words::hex_digit(*byte).map_err(|_| LineError::BadUid)?;
