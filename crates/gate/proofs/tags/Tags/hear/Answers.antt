@@ -1,4 +1,4 @@
-use Rattle.std.proofs.Common.{◌≡◌, length, drop, refl, ◌∙◌, subst, take_at}
+use Rattle.std.proofs.Common.{◌≡◌, length, drop, ◌∙◌, subst, take_at}
 use Rattle.field.specs.Exchange.{heard_from}
 use Rattle.gate.specs.Hearings.{Tells}
 use Rattle.gate.specs.Tagged.{placed}
