@@ -28,5 +28,4 @@ pub record Detecting (u : ℕ) (old new : Rehearsal) (a : Answer) : Type 0 where
   pub space : List ℕ
   pub detects : Detects u (fresh_air old.tags) (air_over new.tags space) result
   pub finds : Finds result old new a
-  pub message : new.message ≡ old.message
-  pub draft : new.draft ≡ old.draft
+  pub desk : new.desk ≡ old.desk

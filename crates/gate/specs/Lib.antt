@@ -1,4 +1,5 @@
 pub mod Adding
+pub mod Desks
 pub mod Detecting
 pub mod Digits
 pub mod Drafts

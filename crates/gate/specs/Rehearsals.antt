@@ -1,7 +1,7 @@
 -- How a rehearsal follows another.
 use Rattle.std.specs.Prelude.{◌≡◌}
 use Rattle.gate.specs.declared.rehearsal.Rehearsal.{Rehearsal}
-use Rattle.gate.specs.Drafts.{Same}
+use Rattle.gate.specs.Desks.{SameDesk}
 use Rattle.gate.specs.Tagged.{SameTags}
 
 -- both have the same sessions
@@ -15,4 +15,4 @@ Still old new = SameTags old.tags new.tags × SameSessions old new
 -- both have the same records to compose, the same message, the same tags, and the same sessions
 abbrev pub Unchanged : Rehearsal → Rehearsal → Type 0
 Unchanged old new =
-    Same old.draft new.draft × (new.message ≡ old.message) × SameTags old.tags new.tags × SameSessions old new
+    SameDesk old.desk new.desk × SameTags old.tags new.tags × SameSessions old new

@@ -30,7 +30,8 @@ pub enum Answer {
     Dumped { lines: String },
     SessionKept { session: KeptSession },
     MessageRead { message: Vec<u8>, exchanges: u64 },
-    // An answer and no error, so `?` passes none on: it may have let the draft go, and an error leaves all as it was.
+    // An answer and no error, so each call that may be refused matches and `?` passes none on: it may have let the draft
+    // go, and an error leaves all as it was.
     Refused { refusal: Refusal },
 }
 

@@ -244,8 +244,7 @@ fn bytes(heap: Global, words: &mut Words) -> Result<Vec<u8>, LineError> {
 
 // The room that is given, or else enough for the longest message.
 fn room(words: &mut Words) -> Result<usize, LineError> {
-    match words.next_word() {
-        Some(word) => words::number(word),
-        None => Ok(composer::LONGEST),
-    }
+    words
+        .next_word()
+        .map_or(Ok(composer::LONGEST), words::number)
 }

@@ -8,7 +8,7 @@ use composer::{Description, Extent};
 use ndef::RecordRefusal;
 use std::alloc::{AllocError, Global};
 
-// The composer's interface takes one store of bytes, and extents into it, so the draft keeps that.
+// The composer's `compose` is public and takes one store of bytes and extents into it: that signature stands.
 #[derive(Drop)]
 pub struct Draft {
     store: Vec<u8>,
@@ -28,18 +28,6 @@ fn keep(store: &mut Vec<u8>, bytes: &[u8]) -> Result<Extent, AllocError>
     })
 }
 
-// Puts a record's parts into the store; where memory fails, some may be there already.
-fn describe(store: &mut Vec<u8>, fields: Fields<&[u8]>) -> Result<Description, AllocError>
-    ensures { Begins store.old store.new }
-{
-    Ok(Description {
-        format: fields.format,
-        kind: keep(store, fields.kind)?,
-        id: keep(store, fields.id)?,
-        payload: keep(store, fields.payload)?,
-    })
-}
-
 impl Draft {
     pub fn new(heap: Global) -> Draft
         ensures { Empty result }
@@ -50,18 +38,31 @@ impl Draft {
         }
     }
 
+    // Puts a record's parts into the store, and describes it; where memory fails, some parts may be there already.
+    fn put(&mut self, fields: Fields<&[u8]>) -> Result<(), LineError>
+        ensures store { Begins self.old.store self.new.store }
+        ensures count { MatchResult result (λ _. vec_len self.new.descriptions ≡ vec_len self.old.descriptions + 1) (λ _. self.new.descriptions.items ≡ self.old.descriptions.items) }
+    {
+        let description = Description {
+            format: fields.format,
+            kind: keep(&mut self.store, fields.kind)?,
+            id: keep(&mut self.store, fields.id)?,
+            payload: keep(&mut self.store, fields.payload)?,
+        };
+        self.descriptions.push(description)?;
+        Ok(())
+    }
+
     // Adds a record, or nothing at all where memory fails.
     pub fn add(&mut self, fields: Fields<&[u8]>) -> Result<(), LineError>
         ensures { MatchResult result (λ _. vec_len self.new.descriptions ≡ vec_len self.old.descriptions + 1) (λ _. Same self.old self.new) }
     {
         let before = self.store.len();
-        if let Ok(description) = describe(&mut self.store, fields)
-            && self.descriptions.push(description).is_ok()
-        {
-            return Ok(());
+        if let Err(error) = self.put(fields) {
+            self.store.truncate(before);
+            return Err(error);
         }
-        self.store.truncate(before);
-        Err(LineError::NoMemory(AllocError))
+        Ok(())
     }
 
     // Composes the records into the front of the space, and answers the message's length.

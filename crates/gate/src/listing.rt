@@ -20,6 +20,7 @@ impl Listing {
         let mut lines = String::new(heap);
         let mut count: usize = 0;
         let mut reader = Reader::new(message);
+        // There are two kinds of error: a refusal ends the listing, and want of memory ends the call.
         let end = loop {
             match reader.next_record() {
                 Ok(Some(record)) => {

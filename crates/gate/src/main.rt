@@ -3,6 +3,7 @@
 
 mod answer;
 mod command;
+mod desk;
 mod draft;
 mod dump;
 mod fields;
@@ -10,8 +11,8 @@ mod hex;
 mod kept_session;
 mod line_error;
 mod listing;
+mod memories;
 mod new_tag;
-mod prepared;
 mod refused;
 mod rehearsal;
 mod script;

@@ -10,7 +10,7 @@ use tag::TagRefusal;
 
 #[derive(Clone, Copy)]
 pub enum Refusal {
-    // Each of these comes before anything is sent, so no step was begun and nothing exchanged.
+    // Each of the first three comes before anything is sent, so no step was begun and nothing exchanged.
     OfRecords(RecordRefusal),
     OfMemory(MemoryRefusal),
     OfTag(TagRefusal),
@@ -58,7 +58,7 @@ impl From<NotRead> for Refusal {
     }
 }
 
-// A call's refusal is a type of crate `t5t`, so what prints it is no `Display`.
+// How a script tells a refusal is this program's, and a `Display` would have to stand beside the library's type.
 fn write_call<W: fmt::Write>(refusal: t5t::Refusal, f: &mut fmt::Formatter<W>) -> fmt::Result {
     write!(
         f,
@@ -78,11 +78,13 @@ fn write_call<W: fmt::Write>(refusal: t5t::Refusal, f: &mut fmt::Formatter<W>) -
 impl fmt::Display for Refusal {
     fn fmt<W: fmt::Write>(&self, f: &mut fmt::Formatter<W>) -> fmt::Result {
         match self {
-            Refusal::OfRecords(RecordRefusal::SpaceShort) => {
-                let number = RecordRefusal::SpaceShort.number();
+            Refusal::OfRecords(refusal @ RecordRefusal::SpaceShort) => {
+                let number = refusal.number();
                 write!(f, "refused {number} step 0 block 0 exchanges 0")
             }
-            Refusal::OfRecords(refusal) => {
+            Refusal::OfRecords(
+                refusal @ (RecordRefusal::BadHeader { .. } | RecordRefusal::BadDescription { .. }),
+            ) => {
                 let number = refusal.number();
                 let place = refusal.place();
                 write!(f, "refused {number} step 0 place {place} exchanges 0")

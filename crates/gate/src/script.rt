@@ -13,10 +13,9 @@ pub fn play(rt: &HostRuntime) -> anyhow::Result<()> {
     let mut is_understood = true;
     let lines = BufReader::new(heap, rt.stdin())?.split(heap, b'\n');
     for (number, line) in (1u64..).zip(lines) {
-        match line {
-            Ok(line) => is_understood &= follow(rt, &mut rehearsal, number, line.as_slice())?,
-            Err(error) => return Err(unread(rt, number, error)),
-        }
+        let line = line.map_err(|error| unread(rt, number, error))?;
+        // A script goes on after a line that is not understood.
+        is_understood &= follow(rt, &mut rehearsal, number, line.as_slice())?;
     }
     if is_understood {
         Ok(())

@@ -5,7 +5,8 @@ ghost use Rattle.gate.specs.Sessions.{ReadsWith};
 use field::Field;
 use t5t::{Closed, Detected, NotRead, Received};
 
-// Sessions in both states stand in one list, so a variant tells the state.
+// The list of sessions holds them in either state, so that a reading is one generic call. Nothing makes a closed session
+// yet.
 #[derive(Drop)]
 pub enum Session {
     Detected(Detected),

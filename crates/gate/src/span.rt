@@ -6,7 +6,7 @@ use crate::line_error::LineError;
 use crate::words;
 use field::Span;
 
-// A span is a type of crate `field`, so what reads it is no `TryFrom`.
+// How a line spells a span is this program's, and a `TryFrom<&[u8]>` would have to stand beside the library's type.
 pub fn read(word: &[u8]) -> Result<Span, LineError>
     ensures { IfOk result (λ s. Spells word.now s) }
 {

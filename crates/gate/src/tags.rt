@@ -1,32 +1,39 @@
 // The tags of a rehearsal, in the order in which they were put there.
-ghost use Rattle.std.specs.Prelude.{◌≡◌, ◌+◌, ◌<◌, ◌≤◌, length, vec_len, MatchResult, OnErr, slice_index_or};
+ghost use Rattle.std.specs.Prelude.{◌≡◌, ◌+◌, ◌<◌, ◌≤◌, length, vec_len, IfOk, MatchResult, OnErr, slice_index_or};
 ghost use Rattle.bench.specs.Bench.{bench_model};
 ghost use Rattle.field.specs.Exchange.{Exchanged};
 ghost use Rattle.bench.specs.declared.bench.Bench.{Bench};
+ghost use Rattle.gate.specs.Adding.{Adding};
+ghost use Rattle.gate.specs.Hearings.{Hearing};
 ghost use Rattle.gate.specs.Preparing.{Prepared, bytes_put, remade};
+ghost use Rattle.memory.specs.BlockLength.{listed};
 ghost use Rattle.memory.specs.Model.{count_of, put_at, with_lock};
 ghost use Rattle.rack.specs.declared.rack.Slot.{Slot};
 ghost use Rattle.gate.specs.Sessions.{ReadsWith, air_over};
 ghost use Rattle.t5t.specs.Detects.{Detects};
 ghost use Rattle.gate.specs.Tagged.{SameTags, WithNew, placed, blank_placed, first_with, spanned};
 
+use crate::answer::Answer;
 use crate::line_error::LineError;
 use crate::new_tag::NewTag;
+use crate::refused::Refusal;
 use crate::session::Session;
-use crate::{dump, prepared};
+use crate::{dump, memories};
 use bench::Bench;
 use field::{Field, Heard, Span};
 use memory::{BlockLength, Memory};
 use rack::{Rack, Slot};
 use std::alloc::Global;
 use t5t::{Found, NotFound, NotRead, Received, Sighted};
-use tag::{Tag, TagRefusal, Uid};
+use tag::{LONGEST_ANSWER, Tag, TagRefusal, Uid};
 
 #[derive(Drop)]
 pub struct Tags {
     heap: Global,
     rack: Rack<Bench>,
 }
+
+// These ask that the place is there, which the tags have looked for, so they are the tags' own.
 
 // Puts the new bytes over those at an address.
 fn put(bytes: &mut Vec<u8>, address: usize, new: &[u8])
@@ -38,7 +45,7 @@ fn put(bytes: &mut Vec<u8>, address: usize, new: &[u8])
 
 // The memory with new bytes from an address on, whether their blocks are locked or not.
 #[tactic(auto, using(crate::proofs::Preparing::bench_bytes, std::proofs::lemmas::Grind::common_steps))]
-fn with_bytes(memory: Bench, address: usize, new: &[u8]) -> Bench
+fn bytes_laid(memory: Bench, address: usize, new: &[u8]) -> Bench
     requires { address + length new.now ≤ length (bench_model memory).bytes }
     ensures locks { result.locks ≡ memory.locks }
     ensures bytes { bench_model result ≡ bytes_put address new.now (bench_model memory) }
@@ -50,7 +57,7 @@ fn with_bytes(memory: Bench, address: usize, new: &[u8]) -> Bench
 }
 
 // The memory with that block locked, which it may have been before.
-fn with_lock(mut memory: Bench, block: u32) -> Bench
+fn block_locked(mut memory: Bench, block: u32) -> Bench
     requires { block < count_of (bench_model memory) }
     ensures bytes { result.bytes.items ≡ memory.bytes.items }
     ensures lock { bench_model result ≡ with_lock (bench_model memory) block }
@@ -59,6 +66,7 @@ fn with_lock(mut memory: Bench, block: u32) -> Bench
     memory
 }
 
+// Each contract says what an error leaves, and that is one named fact, `SameTags`.
 impl Tags {
     pub fn new(heap: Global) -> Tags
         ensures { vec_len result.rack.slots ≡ 0 }
@@ -71,12 +79,29 @@ impl Tags {
         }
     }
 
+    // Adds a blank tag behind the others, unless its block length is refused.
+    pub fn add_tag(&mut self, unit: usize, tag: NewTag) -> Result<Answer, LineError>
+        ensures unchanged { OnErr result (SameTags self.old self.new) }
+        ensures kept { IfOk result (λ a. (x : Refusal) → a ≡ Answer.Refused x → SameTags self.old self.new) }
+        ensures added { IfOk result (λ a. Adding tag (listed unit) self.old self.new a) }
+    {
+        match BlockLength::try_from(unit) {
+            Ok(unit) => {
+                self.add(tag, unit)?;
+                Ok(Answer::TagAdded { uid: tag.uid })
+            }
+            Err(refusal) => Ok(Answer::Refused {
+                refusal: refusal.into(),
+            }),
+        }
+    }
+
     // Adds a blank tag behind the others.
-    pub fn add(&mut self, new: NewTag, unit: BlockLength) -> Result<(), LineError>
+    fn add(&mut self, new: NewTag, unit: BlockLength) -> Result<(), LineError>
         ensures count { MatchResult result (λ _. vec_len self.new.rack.slots ≡ vec_len self.old.rack.slots + 1) (λ _. SameTags self.old self.new) }
         ensures added { MatchResult result (λ _. WithNew (blank_placed new unit) self.old self.new) (λ _. SameTags self.old self.new) }
     {
-        let memory = prepared::blank(self.heap, unit, new.count)?;
+        let memory = memories::blank(self.heap, unit, new.count)?;
         let tag = Tag::new(memory, new.uid, new.marks);
         let span = new.span;
         self.rack.slots.push(Slot { tag, span })?;
@@ -102,7 +127,7 @@ impl Tags {
     {
         let tag = &mut self.rack.slots[index].tag;
         let unit = tag.view().memory.block_length();
-        let memory = tag.replace_memory(prepared::empty(self.heap, unit));
+        let memory = tag.replace_memory(memories::empty(self.heap, unit));
         let _ = tag.replace_memory(make(memory));
     }
 
@@ -116,7 +141,7 @@ impl Tags {
         if address > length || bytes.len() > length - address {
             return Err(LineError::OutsideMemory);
         }
-        self.prepare(index, |memory| with_bytes(memory, address, bytes));
+        self.prepare(index, |memory| bytes_laid(memory, address, bytes));
         Ok(())
     }
 
@@ -129,7 +154,7 @@ impl Tags {
         if block >= memory.block_count() as usize {
             return Err(LineError::NoBlock);
         }
-        self.prepare(index, |memory| with_lock(memory, block as u32));
+        self.prepare(index, |memory| block_locked(memory, block as u32));
         Ok(())
     }
 
@@ -143,8 +168,23 @@ impl Tags {
         Ok(())
     }
 
+    // Lets every tag in reach hear a frame.
+    pub fn hear(&mut self, frame: &[u8]) -> Result<Answer, LineError>
+        ensures unchanged { OnErr result (SameTags self.old self.new) }
+        ensures heard { IfOk result (λ a. Hearing self.old self.new frame.now a) }
+    {
+        // Made before the frame is sent; where one tag answers, the space becomes the answer.
+        let mut space = vec![in self.heap; 0u8; LONGEST_ANSWER]?;
+        match self.exchange(frame, space.as_mut_slice()) {
+            Ok(heard) => Ok(Answer::of_heard(heard, space)),
+            Err(refusal) => Ok(Answer::Refused {
+                refusal: refusal.into(),
+            }),
+        }
+    }
+
     // Lets each tag in reach hear the frame; a single answer lies in the front of the space.
-    pub fn hear(&mut self, frame: &[u8], space: &mut [u8]) -> Result<Heard, TagRefusal>
+    fn exchange(&mut self, frame: &[u8], space: &mut [u8]) -> Result<Heard, TagRefusal>
         ensures count { vec_len self.new.rack.slots ≡ vec_len self.old.rack.slots }
         ensures exchanged { Exchanged (placed self.old) (placed self.new) frame.now space.old space.new result }
     {

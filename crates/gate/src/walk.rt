@@ -29,12 +29,7 @@ impl Walk {
         ensures { result ≡ padded self.number }
     {
         let number = self.number;
-        [
-            last_digit(number / 1000),
-            last_digit(number / 100),
-            last_digit(number / 10),
-            last_digit(number),
-        ]
+        [number / 1000, number / 100, number / 10, number].map(last_digit)
     }
 }
 

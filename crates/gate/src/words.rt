@@ -73,10 +73,8 @@ fn word_end(bytes: &[u8]) -> usize
 fn decimal_digit(byte: u8) -> Result<usize, LineError>
     ensures { IfOk result (λ d. (d < 10) × (byte ≡ 48 + d)) }
 {
-    match byte {
-        b'0'..=b'9' => Ok((byte - b'0') as usize),
-        _ => Err(LineError::BadNumber),
-    }
+    let digit = char::from(byte).to_digit(10).ok_or(LineError::BadNumber)?;
+    Ok(digit as usize)
 }
 
 // The number with one more digit at its end.
@@ -106,12 +104,8 @@ pub fn number(word: &[u8]) -> Result<usize, LineError>
 pub fn hex_digit(byte: u8) -> Result<u8, LineError>
     ensures { IfOk result (λ d. (d < 16) × ((byte ≡ capital d) ⊎ (byte ≡ small d))) }
 {
-    match byte {
-        b'0'..=b'9' => Ok(byte - b'0'),
-        b'A'..=b'F' => Ok(byte - b'A' + 10),
-        b'a'..=b'f' => Ok(byte - b'a' + 10),
-        _ => Err(LineError::BadHex),
-    }
+    let digit = char::from(byte).to_digit(16).ok_or(LineError::BadHex)?;
+    Ok(digit as u8)
 }
 
 // The bytes that a word gives in HEX.

@@ -1,4 +1,4 @@
-// The memory of a tag that is made: without a block, or blank.
+// Makes memories for tags: without a block, or blank.
 ghost use Rattle.std.specs.Prelude.{◌≡◌, ◌*◌, replicate, IfOk};
 ghost use Rattle.memory.specs.BlockLength.{bytes_of};
 

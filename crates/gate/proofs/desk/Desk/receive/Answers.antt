@@ -1,5 +1,5 @@
 use Rattle.std.proofs.Common.{take, refl, ap, ◌∙◌}
-use Rattle.gate.proofs.rehearsal.Rehearsal.receive.Goals as goal
+use Rattle.gate.proofs.desk.Desk.receive.Goals as goal
 
 pub returns-clause-received : goal.returns-clause-received
 returns-clause-received c =
