@@ -74,7 +74,7 @@ impl Rehearsal {
                 self.tags.set_span(uid, span)?;
                 Ok(Answer::SpanSet { uid, span })
             }
-            Command::Frame { frame } => self.tags.hear(frame.as_slice()),
+            Command::Frame { frame } => self.tags.answer_to(frame.as_slice()),
             Command::Dump { uid } => {
                 let lines = self.tags.dump(uid)?;
                 Ok(Answer::Dumped { lines })

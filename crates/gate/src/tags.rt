@@ -97,7 +97,7 @@ impl Tags {
     }
 
     // Adds a blank tag behind the others.
-    fn add(&mut self, new: NewTag, unit: BlockLength) -> Result<(), LineError>
+    pub fn add(&mut self, new: NewTag, unit: BlockLength) -> Result<(), LineError>
         ensures count { MatchResult result (λ _. vec_len self.new.rack.slots ≡ vec_len self.old.rack.slots + 1) (λ _. SameTags self.old self.new) }
         ensures added { MatchResult result (λ _. WithNew (blank_placed new unit) self.old self.new) (λ _. SameTags self.old self.new) }
     {
@@ -168,14 +168,14 @@ impl Tags {
         Ok(())
     }
 
-    // Lets every tag in reach hear a frame.
-    pub fn hear(&mut self, frame: &[u8]) -> Result<Answer, LineError>
+    // Lets every tag in reach hear a frame, and tells what came of it.
+    pub fn answer_to(&mut self, frame: &[u8]) -> Result<Answer, LineError>
         ensures unchanged { OnErr result (SameTags self.old self.new) }
         ensures heard { IfOk result (λ a. Hearing self.old self.new frame.now a) }
     {
         // Made before the frame is sent; where one tag answers, the space becomes the answer.
         let mut space = vec![in self.heap; 0u8; LONGEST_ANSWER]?;
-        match self.exchange(frame, space.as_mut_slice()) {
+        match self.hear(frame, space.as_mut_slice()) {
             Ok(heard) => Ok(Answer::of_heard(heard, space)),
             Err(refusal) => Ok(Answer::Refused {
                 refusal: refusal.into(),
@@ -184,7 +184,7 @@ impl Tags {
     }
 
     // Lets each tag in reach hear the frame; a single answer lies in the front of the space.
-    fn exchange(&mut self, frame: &[u8], space: &mut [u8]) -> Result<Heard, TagRefusal>
+    pub fn hear(&mut self, frame: &[u8], space: &mut [u8]) -> Result<Heard, TagRefusal>
         ensures count { vec_len self.new.rack.slots ≡ vec_len self.old.rack.slots }
         ensures exchanged { Exchanged (placed self.old) (placed self.new) frame.now space.old space.new result }
     {
