@@ -33,7 +33,7 @@ pub struct Tags {
     rack: Rack<Bench>,
 }
 
-// These ask that the place is there, which the tags have looked for, so they are the tags' own.
+// The next three ask that a place is there, which the tags have looked for, so they are the tags' own.
 
 // Puts the new bytes over those at an address.
 fn put(bytes: &mut Vec<u8>, address: usize, new: &[u8])
