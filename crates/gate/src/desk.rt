@@ -1,6 +1,6 @@
 // Where messages are made: the records to compose, and the current message.
 ghost use Rattle.std.specs.Prelude.{◌≡◌, take, vec_len, IfOk, Ok, OnErr, OnOk};
-ghost use Rattle.gate.specs.Desks.{SameDesk};
+ghost use Rattle.gate.specs.Desks.{OneMore, SameDesk};
 ghost use Rattle.gate.specs.Drafts.{Empty};
 ghost use Rattle.gate.specs.Receiving.{Receives};
 
@@ -40,8 +40,10 @@ impl Desk {
         }
     }
 
+    // Adds a house's record to those that are to be composed.
     pub fn add_house(&mut self, walk: Walk, text: &[u8]) -> Result<Answer, LineError>
-        ensures { OnErr result (SameDesk self.old self.new) }
+        ensures unchanged { OnErr result (SameDesk self.old self.new) }
+        ensures added { IfOk result (λ a. (a ≡ Answer.HouseAdded walk) × OneMore self.old self.new) }
     {
         let mut payload = Vec::from_slice(self.heap, &ENGLISH)?;
         payload.extend_from_slice(text)?;
@@ -54,8 +56,10 @@ impl Desk {
         Ok(Answer::HouseAdded { walk })
     }
 
+    // Adds a record to them.
     pub fn add_record(&mut self, fields: Fields<Vec<u8>>) -> Result<Answer, LineError>
-        ensures { OnErr result (SameDesk self.old self.new) }
+        ensures unchanged { OnErr result (SameDesk self.old self.new) }
+        ensures added { IfOk result (λ a. (a ≡ Answer.RecordAdded fields.format) × OneMore self.old self.new) }
     {
         self.draft.add(fields.as_slices())?;
         Ok(Answer::RecordAdded {
