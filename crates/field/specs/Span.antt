@@ -1,5 +1,6 @@
 -- How long a tag stays in reach: endless, or a number of half exchanges.
-use Rattle.std.specs.Prelude.{◌-◌, Bool, true, nat_lt}
+use Rattle.std.specs.Prelude.{ℕ, ◌-◌, Bool, true, nat_lt, List, codes}
+use Rattle.std.specs.Fmt.{decimal}
 use Rattle.field.specs.declared.span.Span.{Span}
 use Rattle.field.specs.declared.span.Span.TheVariants.{Endless, Left}
 
@@ -17,3 +18,8 @@ reaches (Left n) = nat_lt 0 n
 abbrev pub answers : Span → Bool
 answers Endless = true
 answers (Left n) = nat_lt 1 n
+
+-- what it is printed as
+abbrev pub span_text : Span → List ℕ
+span_text Endless = codes "endless"
+span_text (Left n) = decimal n

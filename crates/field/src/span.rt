@@ -46,6 +46,11 @@ impl Span {
 }
 
 impl fmt::Display for Span {
+    ghost use Rattle.std.specs.Prelude.{Some};
+    ghost use Rattle.field.specs.Span.{span_text};
+
+    ghost output = { λ span. Some (span_text span) };
+
     fn fmt<W: fmt::Write>(&self, f: &mut fmt::Formatter<W>) -> fmt::Result {
         match self {
             Span::Endless => f.write_str("endless"),

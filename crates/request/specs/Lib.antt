@@ -2,3 +2,4 @@ pub mod Command
 pub mod Errors
 pub mod Frame
 pub mod Parsed
+pub mod Texts

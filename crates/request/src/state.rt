@@ -9,6 +9,11 @@ pub enum State {
 }
 
 impl fmt::Display for State {
+    ghost use Rattle.std.specs.Prelude.{Some};
+    ghost use Rattle.request.specs.Texts.{state_text};
+
+    ghost output = { λ state. Some (state_text state) };
+
     fn fmt<W: fmt::Write>(&self, f: &mut fmt::Formatter<W>) -> fmt::Result {
         f.write_str(match self {
             State::Ready => "READY",

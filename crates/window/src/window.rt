@@ -56,9 +56,11 @@ impl<M: Memory> Window<M> {
         ensures place { (self.new.first ≡ self.old.first) × (self.new.count ≡ self.old.count) }
     {
         self.check_space(block, bytes)?;
-        self.check_open(block)?;
+        self.check_block(block)?;
         let below = self.block_below(block);
-        self.below.write(below, bytes)
+        self.below
+            .write(below, bytes)
+            .map_err(|_| MemoryRefusal::Locked { block })
     }
 }
 
@@ -77,8 +79,9 @@ impl<M: Memory> Memory for Window<M> {
         self.count.min(rest)
     }
 
-    // The window checks first what the memory below does, so that one does not refuse, and each refusal carries the
-    // block as it was asked of the window.
+    // The window checks first whether space and block are there, as the memory below does, so that one refuses for a lock
+    // alone, and each refusal carries the block as it was asked of the window. The lock itself it leaves to that memory: asked
+    // here too, each window of a pile would ask all those below it once more.
     fn is_locked(&self, block: u32) -> Result<bool, MemoryRefusal> {
         self.check_block(block)?;
         let below = self.block_below(block);
@@ -107,8 +110,10 @@ impl<M: Memory> Memory for Window<M> {
         ensures under { M.Memory.model self.new.below ≡ after result (with_lock (M.Memory.model self.old.below) (self.old.first + block)) (M.Memory.model self.old.below) }
         ensures place { (self.new.first ≡ self.old.first) × (self.new.count ≡ self.old.count) }
     {
-        self.check_open(block)?;
+        self.check_block(block)?;
         let below = self.block_below(block);
-        self.below.lock(below)
+        self.below
+            .lock(below)
+            .map_err(|_| MemoryRefusal::Locked { block })
     }
 }
