@@ -1,5 +1,6 @@
 // A field of any number of tags, each with its own span, for programs that put fields together while they run.
 ghost use Rattle.std.specs.Prelude.{[], ◌∷◌, map};
+ghost use Rattle.field.specs.Exchange.{Exchanged};
 ghost use Rattle.rack.specs.Rack.{placed_of};
 ghost use Rattle.rack.specs.Sound.{sound-all};
 
@@ -40,18 +41,27 @@ impl<M: Memory> Field for Slot<M> {
     }
 }
 
-impl<M: Memory> Field for Rack<M> {
-    ghost tags = { λ r. map (placed_of M.Memory.model) r.slots.items };
-
-    ghost sound = { λ r. sound-all (placed_of M.Memory.model) (λ s. M.Memory.sound s.tag.memory) r.slots.items };
-
-    // What is heard of its tags, one after the other.
-    fn exchange(&mut self, frame: &[u8], space: &mut [u8]) -> Result<Heard, TagRefusal> {
+impl<M: Memory> Rack<M> {
+    // What is heard of its tags, one after the other. A function of its own, since its proof has answers: a wrong edit of the
+    // public one has to be refused there and not at those, which is a rule of the project.
+    fn exchange_all(&mut self, frame: &[u8], space: &mut [u8]) -> Result<Heard, TagRefusal>
+        ensures { Exchanged (map (placed_of M.model) self.old.slots.items) (map (placed_of M.model) self.new.slots.items) frame.now space.old space.new result }
+    {
         check_space(space)?;
         let mut heard = Heard::Nothing;
         for slot in self.slots.iter_mut() {
             heard = heard.and(slot.exchange(frame, space)?);
         }
         Ok(heard)
+    }
+}
+
+impl<M: Memory> Field for Rack<M> {
+    ghost tags = { λ r. map (placed_of M.Memory.model) r.slots.items };
+
+    ghost sound = { λ r. sound-all (placed_of M.Memory.model) (λ s. M.Memory.sound s.tag.memory) r.slots.items };
+
+    fn exchange(&mut self, frame: &[u8], space: &mut [u8]) -> Result<Heard, TagRefusal> {
+        self.exchange_all(frame, space)
     }
 }

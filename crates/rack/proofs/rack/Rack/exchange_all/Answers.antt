@@ -4,7 +4,7 @@ use Rattle.field.specs.Exchange.{Exchange}
 use Rattle.tag.specs.Means.{longest}
 use Rattle.rack.specs.Rack.{placed_of}
 use Rattle.rack.proofs.Racks.{heard-none, heard_more, heard_all}
-use Rattle.rack.proofs.rack.RackField.exchange.Goals as goal
+use Rattle.rack.proofs.rack.Rack.exchange_all.Goals as goal
 
 pub loop-slot-init : goal.loop-slot-init
 loop-slot-init g c = heard-none _ _ _ _

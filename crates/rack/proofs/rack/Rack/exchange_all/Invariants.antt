@@ -1,6 +1,6 @@
 use Rattle.rack.specs.Rack.{placed_of}
 use Rattle.rack.proofs.Racks.{HeardBy}
-use Rattle.rack.proofs.rack.RackField.exchange.Given as goal
+use Rattle.rack.proofs.rack.Rack.exchange_all.Given as goal
 
 abbrev pub invariant-loop-slot : goal.invariant-loop-slot
 invariant-loop-slot g l =
