@@ -108,9 +108,7 @@ impl Tags {
         Ok(())
     }
 
-    // Where the first tag with that UID stands. A function of its own when it runs too: within its callers the loop took a third
-    // more time, though its instructions are the same.
-    #[inline(never)]
+    // Where the first tag with that UID stands.
     fn first(&self, uid: Uid) -> Result<usize, LineError>
         ensures { MatchResult result (λ i. (i ≡ first_with uid.0 self.now) × (i < vec_len self.now.rack.slots)) (λ _. first_with uid.0 self.now ≡ vec_len self.now.rack.slots) }
     {
